@@ -1,17 +1,17 @@
 -- A line that is left alone is of no block.
 use Rattle.std.proofs.Common.{◌≡◌, ◌&&◌, ◌||◌, ℕ, zero, suc, Bool, true, false, true≢false, if◌then◌else◌, List, [], ◌∷◌, Some, refl, sym, ap, ap₂, ◌∙◌}
 use Rattle.std.specs.Prelude.{slice_get}
-use Rattle.s66_line.specs.Class.{is_code, is_instruction}
+use Rattle.s66_line.specs.Class.{is_code, is_instruction, ends_run}
 use Rattle.s66_line.specs.declared.class.Class.{Class}
 use Rattle.s66_line.specs.declared.class.Class.TheVariants.{Comment, Other, Refused, Pad, Instruction}
 use Rattle.s66_source.specs.LeftAlone.{Flagged, Reading, class_at, flagged_lines}
 use Rattle.s66_source.specs.Replaced.{begun, owner}
-use Rattle.s66_source.specs.Roles.{has_block, is_comment_class, is_leading, is_other_class, is_pad_class}
+use Rattle.s66_source.specs.Roles.{has_block, is_comment_class, is_leading, is_pad_class}
 use Rattle.s66_source.specs.Source.{Line, blocks_of, classed_lines, classes_from, label_after, label_at, place_after, place_at, run_after, run_at}
-use Rattle.s66_source.proofs.LineTexts.{no-note_in}
+use Rattle.s66_source.proofs.LineLaw.{no-note_in}
 
 abbrev IsOther : Line → Flagged → Type 0
-IsOther line m = (line.bytes ≡ m.bytes) × (m.alone ≡ true → is_other_class line.class ≡ true)
+IsOther line m = (line.bytes ≡ m.bytes) × (m.alone ≡ true → ends_run line.class ≡ true)
 
 alone-at : (lines : List Flagged) (number run index : ℕ) (label : List ℕ) (after : Bool) (k : ℕ) (m : Flagged) → slice_get lines k ≡ Some m →
     (line : Line) × (slice_get (classes_from number run index label after lines) k ≡ Some line) × IsOther line m
@@ -26,14 +26,14 @@ alone-at (n ∷ lines) number run index label after (suc k) m h =
     let c : Class = class_at after n in
     alone-at lines (suc number) (run_after run c) (place_after index c) (label_after label c n.bytes) (is_code c) k m h
 
-other-only : (c : Class) → is_other_class c ≡ true → (is_instruction c ≡ false) × (is_comment_class c ≡ false) × (is_pad_class c ≡ false)
+other-only : (c : Class) → ends_run c ≡ true → (is_instruction c ≡ false) × (is_comment_class c ≡ false) × (is_pad_class c ≡ false)
 other-only Other is = (refl, refl, refl)
 other-only Comment is = absurd (true≢false (sym is))
 other-only Refused is = absurd (true≢false (sym is))
 other-only (Pad located) is = absurd (true≢false (sym is))
 other-only (Instruction located i) is = absurd (true≢false (sym is))
 
-other-none : (all : List Line) (l : Line) → is_other_class l.class ≡ true → owner all l ≡ 0
+other-none : (all : List Line) (l : Line) → ends_run l.class ≡ true → owner all l ≡ 0
 other-none all l is =
     let plain = other-only l.class is in
     ap₂ own (ap₂ (λ s t. s || t) plain.0 (no-note_in l (blocks_of all) plain.1)) (ap (λ t. t && has_block all l) plain.2)

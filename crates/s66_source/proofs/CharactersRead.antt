@@ -10,7 +10,7 @@ use Rattle.s66_line.specs.InstructionText.{Spells, operand_in, operation_in}
 use Rattle.s66_line.specs.declared.characters.Place.{Place}
 use Rattle.s66_line.specs.declared.characters.Place.TheVariants.{AtTerm, InTerm, InCount, AtEquals, AtLetter, InCharacters, InSlashes, InStars}
 use Rattle.s66_line.proofs.UpperCase.{blank-kept, kept, upper-after_word, upper-skip_blanks, upper-twice, upper-word}
-use Rattle.s66_source.proofs.ReadBack.{trim-kept}
+use Rattle.s66_source.proofs.ReadBack.{trim-kept, trim-all}
 
 -- bytes that spell an instruction which isn't cut where its operand goes on
 abbrev pub SpellsAll : List ℕ → Instr → Type 0
@@ -21,7 +21,7 @@ SpellsAll bytes n = Spells bytes n × (runs_on bytes ≡ false)
 pub same-operation_in : (bytes : List ℕ) → operation_in (upper bytes) ≡ operation_in bytes
 same-operation_in bytes = ap upper (upper-word bytes) ∙ upper-twice (word bytes)
 
-upper-next : (bytes : List ℕ) → skip_blanks (after_word (upper bytes)) ≡ upper (skip_blanks (after_word bytes))
+pub upper-next : (bytes : List ℕ) → skip_blanks (after_word (upper bytes)) ≡ upper (skip_blanks (after_word bytes))
 upper-next bytes = ap skip_blanks (upper-after_word bytes) ∙ upper-skip_blanks (after_word bytes)
 
 pub same-operand_in : (bytes : List ℕ) → operand_in (upper bytes) ≡ operand_in bytes
@@ -65,13 +65,6 @@ same-runs_on bytes =
 abbrev all : List ℕ → Bool
 all rest = every is_trailing rest
 
-trim-none : (rest : List ℕ) → all rest ≡ true → trim is_trailing rest ≡ []
-trim-none [] h = refl
-trim-none (b ∷ rest) h = rw h refl
-
-trim-some : (b : ℕ) (rest : List ℕ) → all (b ∷ rest) ≡ false → trim is_trailing (b ∷ rest) ≡ b ∷ trim is_trailing rest
-trim-some b rest h = trim-kept is_trailing b rest h
-
 no-mark : (mark : ℕ) (rest : List ℕ) → is_trailing mark ≡ false → all rest ≡ true → through mark rest ≡ None
 no-mark mark [] other h = refl
 no-mark mark (b ∷ rest) other h = by_mark (b == mark) refl (no-mark mark rest other (and_parts (is_trailing b) (all rest) h).1)
@@ -85,8 +78,8 @@ through-trimmed mark [] other = refl
 through-trimmed mark (b ∷ rest) other = by_all (all (b ∷ rest)) refl (through-trimmed mark rest other)
   where
     by_all : (t : Bool) → all (b ∷ rest) ≡ t → through mark (trim is_trailing rest) ≡ through mark rest → through mark (trim is_trailing (b ∷ rest)) ≡ through mark (b ∷ rest)
-    by_all true stated later = ap (through mark) (trim-none (b ∷ rest) stated) ∙ sym (no-mark mark (b ∷ rest) other stated)
-    by_all false stated later = ap (through mark) (trim-some b rest stated) ∙ ap (λ more. if b == mark then Some 1 else option_map (λ n. suc n) more) later
+    by_all true stated later = ap (through mark) (trim-all is_trailing (b ∷ rest) stated) ∙ sym (no-mark mark (b ∷ rest) other stated)
+    by_all false stated later = ap (through mark) (trim-kept is_trailing b rest stated) ∙ ap (λ more. if b == mark then Some 1 else option_map (λ n. suc n) more) later
 
 taken-trimmed : (place : Place) (rest : List ℕ) → still_taken place (trim is_trailing rest) ≡ still_taken place rest
 taken-trimmed AtTerm rest = refl
@@ -105,10 +98,10 @@ blank-trimmed (suc n) [] h = refl
 blank-trimmed n (b ∷ rest) h = by_all (all (b ∷ rest)) refl (λ m. blank-trimmed m rest) n h
   where
     by_all : (t : Bool) → all (b ∷ rest) ≡ t → ((m : ℕ) → begins_blank (drop m rest) ≡ true → begins_blank (drop m (trim is_trailing rest)) ≡ true) → (n : ℕ) → begins_blank (drop n (b ∷ rest)) ≡ true → begins_blank (drop n (trim is_trailing (b ∷ rest))) ≡ true
-    by_all true stated later zero h = ap begins_blank (trim-none (b ∷ rest) stated)
-    by_all true stated later (suc n) h = ap (λ bs. begins_blank (drop (suc n) bs)) (trim-none (b ∷ rest) stated)
-    by_all false stated later zero h = ap begins_blank (trim-some b rest stated) ∙ h
-    by_all false stated later (suc n) h = ap (λ bs. begins_blank (drop (suc n) bs)) (trim-some b rest stated) ∙ later n h
+    by_all true stated later zero h = ap begins_blank (trim-all is_trailing (b ∷ rest) stated)
+    by_all true stated later (suc n) h = ap (λ bs. begins_blank (drop (suc n) bs)) (trim-all is_trailing (b ∷ rest) stated)
+    by_all false stated later zero h = ap begins_blank (trim-kept is_trailing b rest stated) ∙ h
+    by_all false stated later (suc n) h = ap (λ bs. begins_blank (drop (suc n) bs)) (trim-kept is_trailing b rest stated) ∙ later n h
 
 ended : (t : Bool) → not t ≡ false → t ≡ true
 ended true h = refl
@@ -129,8 +122,8 @@ all-none [] = refl
 all-none (b ∷ bytes) = by_all (all (b ∷ bytes)) refl
   where
     by_all : (t : Bool) → all (b ∷ bytes) ≡ t → all (b ∷ bytes) ≡ is_none (trim is_trailing (b ∷ bytes))
-    by_all true stated = stated ∙ ap is_none (sym (trim-none (b ∷ bytes) stated))
-    by_all false stated = stated ∙ ap is_none (sym (trim-some b bytes stated))
+    by_all true stated = stated ∙ ap is_none (sym (trim-all is_trailing (b ∷ bytes) stated))
+    by_all false stated = stated ∙ ap is_none (sym (trim-kept is_trailing b bytes stated))
 
 trim-first : (b : ℕ) (bytes other : List ℕ) → trim is_trailing bytes ≡ trim is_trailing other → trim is_trailing (b ∷ bytes) ≡ trim is_trailing (b ∷ other)
 trim-first b bytes other same =
@@ -155,10 +148,10 @@ take-trimmed n (b ∷ rest) = by_all (all (b ∷ rest)) refl (λ m. take-trimmed
 
     by_all : (t : Bool) → all (b ∷ rest) ≡ t → ((m : ℕ) → trim is_trailing (take m (trim is_trailing rest)) ≡ trim is_trailing (take m rest)) → (n : ℕ) → trim is_trailing (take n (trim is_trailing (b ∷ rest))) ≡ trim is_trailing (take n (b ∷ rest))
     by_all true stated later n =
-        ap (λ bs. trim is_trailing (take n bs)) (trim-none (b ∷ rest) stated) ∙ none n ∙ sym (trim-none (take n (b ∷ rest)) (all-take n (b ∷ rest) stated))
-    by_all false stated later zero = ap (λ bs. trim is_trailing (take zero bs)) (trim-some b rest stated)
+        ap (λ bs. trim is_trailing (take n bs)) (trim-all is_trailing (b ∷ rest) stated) ∙ none n ∙ sym (trim-all is_trailing (take n (b ∷ rest)) (all-take n (b ∷ rest) stated))
+    by_all false stated later zero = ap (λ bs. trim is_trailing (take zero bs)) (trim-kept is_trailing b rest stated)
     by_all false stated later (suc n) =
-        ap (λ bs. trim is_trailing (take (suc n) bs)) (trim-some b rest stated) ∙ trim-first b (take n (trim is_trailing rest)) (take n rest) (later n)
+        ap (λ bs. trim is_trailing (take (suc n) bs)) (trim-kept is_trailing b rest stated) ∙ trim-first b (take n (trim is_trailing rest)) (take n rest) (later n)
 
 characters-trimmed : (taken : Option ℕ) (rest : List ℕ) → cut taken (trim is_trailing rest) ≡ cut taken rest
 characters-trimmed None rest = refl

@@ -1,8 +1,8 @@
 -- Operands cut at commas and other bytes, and the numbers that their digits spell, for what an operation covers.
 use Rattle.std.proofs.Common.{◌≡◌, ◌≤◌, ◌<◌, ◌+◌, ◌-◌, ◌*◌, ◌==◌, ℕ, zero, suc, Bool, true, false, if◌then◌else◌, min, Option, None, Some, List, [], ◌∷◌, length, nat_lt, take, drop, get_or, drop-cons, add-one, refl, sym, ap, ◌∙◌, arith}
 use Rattle.std.proofs.lemmas.Bool.{and_parts, false_from_ne_true}
-use Rattle.s66_line.specs.Fields.{after_word, from_operand, from_operation, is_blank, skip_blanks}
-use Rattle.s66_line.proofs.LineFields.{from_operation_within}
+use Rattle.s66_line.specs.Fields.{after_word, from_operand, from_operation}
+use Rattle.s66_line.proofs.LineFields.{from_operation_within, skip_blanks-length, after_word-length}
 use Rattle.memchr.specs.Find.{IsFirstByte, is_byte}
 use Rattle.s66_isa.specs.Lists.{every}
 use Rattle.s66_source.specs.Counts.{after_byte, after_comma, before_byte, counting_text, spelled_after}
@@ -82,18 +82,6 @@ pub every-next : (test : ℕ → Bool) (bytes : List ℕ) (i : ℕ) → i < leng
 every-next test bytes i below all = rw add-one (and_parts (test (get_or bytes i 0)) (every test (drop (suc i) bytes)) (rw (drop-cons bytes i 0) at all)).1
 
 -- OPERANDS are shorter than their lines
-
-skip_blanks-length : (bytes : List ℕ) → length (skip_blanks bytes) ≤ length bytes
-skip_blanks-length [] = omega arith
-skip_blanks-length (b ∷ bytes) =
-    elim (is_blank b) as (λ t. length (if t then skip_blanks bytes else b ∷ bytes) ≤ suc (length bytes))
-    [ true ↦ (let h = skip_blanks-length bytes in omega (arith, h)) | false ↦ omega arith ]
-
-after_word-length : (bytes : List ℕ) → length (after_word bytes) ≤ length bytes
-after_word-length [] = omega arith
-after_word-length (b ∷ bytes) =
-    elim (is_blank b) as (λ t. length (if t then b ∷ bytes else after_word bytes) ≤ suc (length bytes))
-    [ true ↦ omega arith | false ↦ (let h = after_word-length bytes in omega (arith, h)) ]
 
 text-length : (near : Bool) (line : List ℕ) → length (if near then from_operand line else []) ≤ length line - 1
 text-length false line = omega arith

@@ -10,19 +10,16 @@ use Rattle.std.proofs.lemmas.Slice.Eq.{bytes_eq-Decides}
 use Rattle.s66_line.specs.Fields.{body, continues, is_comment, lines_from, location, operand, operation, upper, upper_byte}
 use Rattle.s66_line.proofs.UpperCase.{kept, length-upper, upper-if}
 use Rattle.s66_source.specs.Counts.{before_byte, is_one_of}
-use Rattle.s66_source.specs.Redefined.{Redefined, defined_by, defined_name, forming, macros, nothing_redefined, own_operation, redefined_in, renaming, is_short}
+use Rattle.s66_source.specs.Redefined.{Redefined, defined_by, defined_name, forming, macros, own_operation, renaming, is_short}
 use Rattle.s66_source.specs.Redefining.{with_bodies, with_lines, begins_so, one_begins_so}
 use Rattle.s66_source.proofs.Standings.{upper-ascii}
 
 -- NAMES
 
-upper-letter : (b : ℕ) → to_ascii_uppercase b ≡ upper_byte b
-upper-letter b = grind arith
-
 -- std's word for a text in upper case
 pub upper-letters : (bytes : List ℕ) → map to_ascii_uppercase bytes ≡ upper bytes
 upper-letters [] = refl
-upper-letters (b ∷ bytes) = ap₂ (λ c rest. c ∷ rest) (upper-letter b) (upper-letters bytes)
+upper-letters (b ∷ bytes) = ap₂ (λ c rest. c ∷ rest) (upper-ascii b) (upper-letters bytes)
 
 pub upper-before : (bytes : List ℕ) → upper (before_byte 44 bytes) ≡ before_byte 44 (upper bytes)
 upper-before [] = refl
@@ -89,9 +86,6 @@ long-adds-nothing known line own long =
     let is = own-operation line own in
     adds-nothing known line (ap (is_one_of renaming) is ∙ long-renaming (operation line) long) (ap (is_one_of forming) is ∙ long-forming (operation line) long)
 
-pub no-operation : (line : List ℕ) → (is_comment line || continues line) ≡ true → own_operation line ≡ []
-no-operation line none = rw none refl
-
 pub defined_by-append : (names : List (List ℕ)) (bodies more : List (List ℕ)) → defined_by names (bodies ++ more) ≡ defined_by names bodies ++ defined_by names more
 defined_by-append names [] more = refl
 defined_by-append names (line ∷ bodies) more =
@@ -119,9 +113,6 @@ pub next-line : (known after : Redefined) (text line rest : List ℕ) → lines_
     with_lines after (lines_from [] rest) ≡ with_lines known (lines_from [] text)
 next-line known after text line rest is made =
     ap (λ k. with_lines k (lines_from [] rest)) made ∙ with_bodies-append known (body line ∷ []) (map body (lines_from [] rest)) ∙ sym (ap (with_lines known) is)
-
-pub nothing-before : (lines : List (List ℕ)) → with_lines nothing_redefined lines ≡ redefined_in lines
-nothing-before lines = refl
 
 -- WHAT BEGINS OTHERWISE than each of some names is none of them
 

@@ -3,9 +3,8 @@ use Rattle.std.proofs.Common.{◌≡◌, ◌==◌, ◌&&◌, ◌||◌, ℕ, zero
 use Rattle.s66_line.specs.Fields.{continues, is_comment, operation, upper, upper_byte}
 use Rattle.s66_line.proofs.UpperCase.{kept, upper-twice}
 use Rattle.s66_source.specs.Counts.{counting_text}
-use Rattle.s66_source.specs.LeftAlone.{Standing}
+use Rattle.s66_source.specs.LeftAlone.{Standing, after_directive, after_operation, directive_cover, has_operation, with_directive, with_operation, directs, is_directive, is_letter}
 use Rattle.s66_source.specs.declared.limits.TheConstants.{DIRECTIVE_LIMIT}
-use Rattle.s66_source.specs.LeftAlone.{after_directive, after_operation, directive_cover, has_operation, with_directive, with_operation, directs, is_directive, is_letter}
 
 twice : (first rest : Bool) → (first && (first && rest)) ≡ (first && rest)
 twice true rest = refl

@@ -4,7 +4,7 @@ use Rattle.std.proofs.lemmas.Bool.{and_right, leb-false, ltb-false, or_from, or_
 use Rattle.std.proofs.lemmas.List.{append_assoc, length-append, length-replicate}
 use Rattle.s66_isa.specs.Lists.{every}
 use Rattle.s66_isa.specs.declared.instr.Instr.{Instr}
-use Rattle.s66_line.specs.Fields.{after_word, body, from_operand, from_operation, is_blank, is_trailing, label_bytes, skip_blanks, trim, is_comment, continues}
+use Rattle.s66_line.specs.Fields.{after_word, body, from_operand, from_operation, is_blank, is_trailing, label_bytes, skip_blanks, trim}
 use Rattle.s66_line.specs.InstructionText.{Spells}
 use Rattle.s66_line.specs.Operand.{is_filled}
 use Rattle.s66_source.specs.Columns.{before_operation, indent, line_start}
@@ -14,12 +14,12 @@ use Rattle.s66_source.specs.LeftAlone.{distance, is_far, is_doubtful}
 use Rattle.s66_source.specs.Printed.{label_field}
 use Rattle.s66_source.specs.Redefined.{Redefined, is_redefined}
 use Rattle.s66_source.proofs.RedefinedCase.{redefined-trim}
-use Rattle.s66_source.proofs.ReadBack.{trim-kept}
-use Rattle.s66_source.proofs.ReadLine.{operand-trimmed, IsLabel, IsRead, read-indented, read-line, trim-all, every-behind, body-again}
+use Rattle.s66_source.proofs.ReadBack.{trim-all}
+use Rattle.s66_source.proofs.ReadLine.{operand-trimmed, IsLabel, IsRead, read-indented, read-line, body-again, trim-behind}
 use Rattle.s66_source.proofs.CharactersRead.{SpellsAll}
-use Rattle.s66_line.specs.declared.class.Class.{Class}
-use Rattle.s66_line.specs.declared.class.Class.TheVariants.{Comment, Other, Refused, Instruction}
-use Rattle.s66_line.specs.Class.{class_of, by_operation, is_located}
+use Rattle.s66_line.specs.declared.class.Class.TheVariants.{Instruction}
+use Rattle.s66_line.specs.Class.{class_of, is_code}
+use Rattle.s66_source.proofs.Classes.{same-code}
 
 -- the operand is filled, and so far behind the operation
 abbrev pub is_distant : List ℕ → Bool
@@ -52,10 +52,6 @@ operand-front bytes =
     let blanks = skip-front (after_word bytes) in
     (word.0 ++ blanks.0, word.1 ∙ ap (λ bs. word.0 ++ bs) blanks.1 ∙ sym (append_assoc word.0 blanks.0 (skip_blanks (after_word bytes))))
 
-trim-front_kept : (front bytes : List ℕ) → every is_trailing bytes ≡ false → trim is_trailing (front ++ bytes) ≡ front ++ trim is_trailing bytes
-trim-front_kept [] bytes h = refl
-trim-front_kept (b ∷ front) bytes h = trim-kept is_trailing b (front ++ bytes) (every-behind is_trailing (b ∷ front) bytes h) ∙ ap (λ bs. b ∷ bs) (trim-front_kept front bytes h)
-
 lengths : (front rest whole : List ℕ) → whole ≡ front ++ rest → length whole - length rest ≡ length front
 lengths front rest whole same = let all = ap length same ∙ length-append front rest in omega (arith, all)
 
@@ -64,7 +60,7 @@ distance-trimmed bytes n spells some =
     let rest : List ℕ = skip_blanks (after_word bytes) in
     let front = operand-front bytes in
     let whole : trim is_trailing bytes ≡ front.0 ++ skip_blanks (after_word (trim is_trailing bytes)) =
-    ap (trim is_trailing) front.1 ∙ trim-front_kept front.0 rest some ∙ ap (λ bs. front.0 ++ bs) (sym (operand-trimmed bytes n spells)) in
+    ap (trim is_trailing) front.1 ∙ trim-behind is_trailing front.0 rest some ∙ ap (λ bs. front.0 ++ bs) (sym (operand-trimmed bytes n spells)) in
     lengths front.0 (skip_blanks (after_word (trim is_trailing bytes))) (trim is_trailing bytes) whole ∙ sym (lengths front.0 rest bytes front.1)
 
 -- A LINE THAT IS PRINTED
@@ -177,13 +173,6 @@ clear-printed true known label blanks bytes n is fits spells clear =
 
 -- A LINE THAT IS READ and isn't in doubt
 
-same-instruction : (comment comma after : Bool) (c : Class) (located : Bool) (n : Instr) → (if comment then Comment else (if comma then (if after then Refused else Other) else c)) ≡ Instruction located n →
-    (if comment then Comment else (if comma then Refused else c)) ≡ Instruction located n
-same-instruction true comma after c located n h = cc
-same-instruction false true true c located n h = cc
-same-instruction false true false c located n h = cc
-same-instruction false false after c located n h = h
-
 near-read : (line : List ℕ) → is_far line ≡ false → is_distant (from_operation line) ≡ false
 near-read line near = by_operand (is_filled (from_operand line)) (nat_le 19 (distance (from_operation line))) (nat_lt (length (label_bytes line)) 10 && nat_le 29 (length line - length (from_operand line))) near
   where
@@ -195,8 +184,7 @@ near-read line near = by_operand (is_filled (from_operand line)) (nat_le 19 (dis
 not-far : (held after : Bool) (known : Redefined) (line : List ℕ) (located : Bool) (n : Instr) → (held || (true && is_doubtful known (class_of true line) (body line))) ≡ false → class_of after line ≡ Instruction located n →
     is_far (body line) ≡ false
 not-far held after known line located n taken stated =
-    let class : class_of true line ≡ Instruction located n =
-    same-instruction (is_comment (body line)) (continues (body line)) after (by_operation (is_located (body line)) (from_operation (body line))) located n stated in
+    let class : class_of true line ≡ Instruction located n = same-code after true line (ap is_code stated) ∙ stated in
     (or_parts (is_redefined known (from_operation (body line))) (is_far (body line))
     (ap (λ c. is_doubtful known c (body line)) (sym class) ∙ (or_parts held (is_doubtful known (class_of true line) (body line)) taken).1)).1
 
@@ -204,8 +192,7 @@ pub clear-read : (cut held after : Bool) (known : Redefined) (line : List ℕ) (
     (cut && is_unclear known (from_operation (body line))) ≡ false
 clear-read false held after known line located n taken stated = refl
 clear-read true held after known line located n taken stated =
-    let class : class_of true line ≡ Instruction located n =
-    same-instruction (is_comment (body line)) (continues (body line)) after (by_operation (is_located (body line)) (from_operation (body line))) located n stated in
+    let class : class_of true line ≡ Instruction located n = same-code after true line (ap is_code stated) ∙ stated in
     let both = or_parts (is_redefined known (from_operation (body line))) (is_far (body line))
     (ap (λ c. is_doubtful known c (body line)) (sym class) ∙ (or_parts held (is_doubtful known (class_of true line) (body line)) taken).1) in
     or_from (is_redefined known (from_operation (body line))) (is_distant (from_operation (body line))) both.0 (near-read (body line) both.1)

@@ -1,16 +1,9 @@
 -- Where a text is parted into two sources, by its lines (`halves_of`).
-use Rattle.std.proofs.Common.{◌≡◌, ◌+◌, ◌==◌, ℕ, zero, suc, true, false, if◌then◌else◌, Option, None, Some, List, [], ◌∷◌, ◌++◌, take, drop, refl, sym, ap, ap₂, ◌∙◌, arith, append_assoc}
+use Rattle.std.proofs.Common.{◌≡◌, ◌+◌, ◌==◌, ℕ, zero, suc, true, false, if◌then◌else◌, Option, None, Some, List, [], ◌∷◌, ◌++◌, take, drop, refl, sym, ap, ap₂, ◌∙◌, arith, append_assoc, take-add}
 use Rattle.std.proofs.lemmas.Bool.{eqb-true, false_from_ne_true}
 use Rattle.std.proofs.lemmas.List.{append-nil, drop-drop}
-use Rattle.s66_line.proofs.LineCuts.{IsFirstNewline}
+use Rattle.s66_line.proofs.LineCuts.{IsFirstNewline, later, nowhere}
 use Rattle.s66_source.specs.Halves.{Halves, halves_from, halves_of, is_new_mark}
-
-later : (b : ℕ) (bytes : List ℕ) (k : ℕ) → IsFirstNewline (b ∷ bytes) (Some (suc k)) → IsFirstNewline bytes (Some k)
-later b bytes k h =
-    (record { low = omega arith; high = (let high = h.0.high in omega (arith, high)); before = λ i low below. h.0.before (suc i) (omega arith) (omega (arith, below)) }, h.1)
-
-nowhere : (b : ℕ) (bytes : List ℕ) → IsFirstNewline (b ∷ bytes) None → IsFirstNewline bytes None
-nowhere b bytes h = λ i low below. h (suc i) (omega arith) (omega (arith, below))
 
 -- a line ends here
 abbrev at_line : List ℕ → List ℕ → List ℕ → Option Halves
@@ -60,19 +53,6 @@ newline-found (b ∷ bytes) (suc k) h =
     let next : suc k + 1 ≡ suc (k + 1) = omega arith in
     ap (λ n. take n (b ∷ bytes)) next ∙ ap (λ l. b ∷ l) (newline-found bytes k (later b bytes k h))
 
-take-none : (m : ℕ) → take {A = ℕ} m [] ≡ []
-take-none zero = refl
-take-none (suc m) = refl
-
-take-more : (n m : ℕ) (xs : List ℕ) → take (n + m) xs ≡ take n xs ++ take m (drop n xs)
-take-more zero m xs =
-    let same : zero + m ≡ m = omega arith in
-    ap (λ k. take k xs) same
-take-more (suc n) m [] = take-none (suc n + m) ∙ sym (take-none m)
-take-more (suc n) m (x ∷ xs) =
-    let next : suc n + m ≡ suc (n + m) = omega arith in
-    ap (λ k. take k (x ∷ xs)) next ∙ ap (λ ys. x ∷ ys) (take-more n m xs)
-
 -- IN A TEXT, of which no line that ends before this place is a mark
 
 drop-more : (begin k : ℕ) (text : List ℕ) → drop (k + 1) (drop begin text) ≡ drop (begin + k + 1) text
@@ -90,6 +70,6 @@ pub mark-later : (text : List ℕ) (begin k : ℕ) → IsFirstNewline (drop begi
 mark-later text begin k first other none =
     let same : begin + k + 1 ≡ begin + (k + 1) = omega arith in
     ap₂ (λ old new. halves_from old [] new)
-    (ap (λ n. take n text) same ∙ take-more begin (k + 1) text ∙ ap (λ line. take begin text ++ line) (newline-found (drop begin text) k first) ∙ sym (append_assoc (take begin text) (take k (drop begin text)) (10 ∷ [])))
+    (ap (λ n. take n text) same ∙ take-add begin (k + 1) text ∙ ap (λ line. take begin text ++ line) (newline-found (drop begin text) k first) ∙ sym (append_assoc (take begin text) (take k (drop begin text)) (10 ∷ [])))
     (sym (drop-more begin k text))
     ∙ sym (found-other (take begin text) (drop begin text) k first other) ∙ none

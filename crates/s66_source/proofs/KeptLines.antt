@@ -197,17 +197,14 @@ given-order blocks gs number block p are some is m among = by_place number block
     by_test true some = some
     by_test false some = cc
 
-    first-order : (q : Placed) → Some q ≡ Some p → (b : Block) → Some b ≡ Some block → ((m : ℕ) → Among m q.order → (1 ≤ m) × (m ≤ length b.entries)) → (1 ≤ m) × (m ≤ length block.entries)
-    first-order q same b is order =
-        let qs : q ≡ p = cc in
-        let bs : b ≡ block = cc in
-        subst (λ (x : Block). (1 ≤ m) × (m ≤ length x.entries)) bs (order m (subst (λ (x : Placed). Among m x.order) (sym qs) among))
-
     by_place : (i : ℕ) (blocks : List Block) (gs : List (Option Placed)) → AreGiven blocks gs → get_or gs i None ≡ Some p → slice_get blocks i ≡ Some block → (1 ≤ m) × (m ≤ length block.entries)
     by_place i [] gs are some is = cc
     by_place i (b ∷ blocks) [] are some is = cc
     by_place zero (b ∷ blocks) (None ∷ gs) are some is = cc
-    by_place zero (b ∷ blocks) (Some q ∷ gs) are some is = first-order q some b is are.0
+    by_place zero (b ∷ blocks) (Some q ∷ gs) are some is =
+        let placed : q ≡ p = cc in
+        let same : b ≡ block = cc in
+        subst (λ (x : Block). (1 ≤ m) × (m ≤ length x.entries)) same (are.0 m (subst (λ (x : Placed). Among m x.order) (sym placed) among))
     by_place (suc i) (b ∷ blocks) (None ∷ gs) are some is = by_place i blocks gs are some is
     by_place (suc i) (b ∷ blocks) (Some q ∷ gs) are some is = by_place i blocks gs are.1 some is
 

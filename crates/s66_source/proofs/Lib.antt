@@ -13,6 +13,7 @@ pub mod KeptLines
 pub mod AloneLines
 pub mod ReadBack
 pub mod CharactersRead
+pub mod Classes
 pub mod ReadStanding
 pub mod ReadLine
 pub mod LineTexts

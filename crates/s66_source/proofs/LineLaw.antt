@@ -2,14 +2,14 @@
 use Rattle.std.proofs.Common.{◌≡◌, ◌≤◌, ◌+◌, ◌&&◌, ◌||◌, not, ℕ, suc, Bool, true, false, cond, if◌then◌else◌, List, [], ◌∷◌, ◌++◌, length, map, nat_lt, refl, ap, ◌∙◌, inl, inr, arith, Option, None, Some}
 use Rattle.std.specs.Prelude.{◌⊎◌, Ok}
 use Rattle.std.proofs.Math.Bool.{and-false}
-use Rattle.std.proofs.lemmas.Bool.{cases_lt, le-ltb}
+use Rattle.std.proofs.lemmas.Bool.{cases_lt, le-ltb, ltb-false}
 use Rattle.s66_isa.specs.Lists.{Among, tally, some_of}
 use Rattle.s66_source.specs.Source.{Line, run_after, place_after, label_after, classes_from, classed_lines, operand_refusal, refusal_at, or_else, refusal, instructions, parts_of, entry_of, block_of, blocks_of, unless_refused, source_of}
 use Rattle.s66_line.specs.Block.{Block, line_of}
-use Rattle.s66_line.specs.Class.{is_instruction, is_code}
+use Rattle.s66_line.specs.Class.{is_instruction, is_code, ends_run}
 use Rattle.s66_source.specs.LeftAlone.{Reading, Flagged, class_at, flagged_lines}
 use Rattle.s66_source.specs.BlockParts.{all_of}
-use Rattle.s66_source.specs.Roles.{is_comment_class, is_pad_class, is_other_class, is_note_of, is_note, has_block, roles}
+use Rattle.s66_source.specs.Roles.{is_comment_class, is_pad_class, is_note_of, is_note, has_block, roles}
 use Rattle.s66_line.specs.declared.class.Class.{Class}
 use Rattle.s66_line.specs.declared.class.Class.TheVariants.{Comment, Other, Refused, Pad, Instruction}
 use Rattle.s66_line.specs.declared.limits.TheConstants.{LINE_BYTES_LIMIT}
@@ -33,25 +33,31 @@ none-at [] l h among = absurd among
 none-at (m ∷ lines) l h (inl same) = ap refusal_at same ∙ (neither (refusal_at m) (refusal lines) h).0
 none-at (m ∷ lines) l h (inr among) = none-at lines l (neither (refusal_at m) (refusal lines) h).1 among
 
-last_none : (long many : Bool) (e f : SourceError) (o : Option SourceError) → (if long then Some e else (if many then Some f else o)) ≡ None → o ≡ None
-last_none true many e f o h = cc
-last_none false true e f o h = cc
-last_none false false e f o h = h
+-- what is known of a line that isn't refused
+pub record IsTaken (l : Line) : Type 0 where
+  pub short : length l.bytes ≤ LINE_BYTES_LIMIT
+  pub few : l.number ≤ SOURCE_LINES_LIMIT
+  pub operand : operand_refusal l.number l.class ≡ None
 
-pub operand-none : (lines : List Line) (l : Line) → refusal lines ≡ None → Among l lines → operand_refusal l.number l.class ≡ None
-operand-none lines l h among =
-    last_none (nat_lt LINE_BYTES_LIMIT (length l.bytes)) (nat_lt SOURCE_LINES_LIMIT l.number) (LineTooLong l.number) TooLarge (operand_refusal l.number l.class) (none-at lines l h among)
+pub taken-line : (l : Line) → refusal_at l ≡ None → IsTaken l
+taken-line l h = by_tests (nat_lt LINE_BYTES_LIMIT (length l.bytes)) (nat_lt SOURCE_LINES_LIMIT l.number) refl refl h
+  where
+    by_tests : (long many : Bool) → nat_lt LINE_BYTES_LIMIT (length l.bytes) ≡ long → nat_lt SOURCE_LINES_LIMIT l.number ≡ many →
+        (if long then Some (LineTooLong l.number) else (if many then Some TooLarge else operand_refusal l.number l.class)) ≡ None → IsTaken l
+    by_tests true many long_is many_is h = cc
+    by_tests false true long_is many_is h = cc
+    by_tests false false long_is many_is h = record { short = ltb-false LINE_BYTES_LIMIT (length l.bytes) long_is; few = ltb-false SOURCE_LINES_LIMIT l.number many_is; operand = h }
 
 -- ONE ROLE, by the class
 
-not_comment : (l : Line) (blocks : List Block) → is_comment_class l.class ≡ false → some_of (is_note_of l) blocks ≡ false
-not_comment l [] h = refl
-not_comment l (block ∷ blocks) h = rw (h, not_comment l blocks h) refl
+pub no-note_in : (l : Line) (blocks : List Block) → is_comment_class l.class ≡ false → some_of (is_note_of l) blocks ≡ false
+no-note_in l [] h = refl
+no-note_in l (block ∷ blocks) h = rw (h, no-note_in l blocks h) refl
 
 -- by whether it is a note, and whether an instruction is in its run
 abbrev roles_by : Class → Bool → Bool → List Bool
 roles_by c note block =
-    is_instruction c ∷ note ∷ (is_pad_class c && block) ∷ (is_other_class c || (is_comment_class c && not note || is_pad_class c && not block)) ∷ []
+    is_instruction c ∷ note ∷ (is_pad_class c && block) ∷ (ends_run c || (is_comment_class c && not note || is_pad_class c && not block)) ∷ []
 
 one_by : (c : Class) (note block : Bool) (number : ℕ) → operand_refusal number c ≡ None → (is_comment_class c ≡ false → note ≡ false) → tally (λ is. is) (roles_by c note block) ≡ 1
 one_by Comment true block number h none = refl
@@ -65,8 +71,8 @@ one_by (Instruction located n) note block number h none = rw (none refl) refl
 pub one : (source : Reading) (blocks : List Block) (line : Line) → source_of source ≡ Ok blocks → Among line (classed_lines source) → tally (λ is. is) (roles (classed_lines source) line) ≡ 1
 one source blocks line accepted among =
     let lines : List Line = classed_lines source in
-    let taken = operand-none lines line (no_refusal (refusal lines) (blocks_of lines) blocks accepted) among in
-    one_by line.class (is_note lines line) (has_block lines line) line.number taken (not_comment line (blocks_of lines))
+    let taken = taken-line line (none-at lines line (no_refusal (refusal lines) (blocks_of lines) blocks accepted) among) in
+    one_by line.class (is_note lines line) (has_block lines line) line.number taken.operand (no-note_in line (blocks_of lines))
 
 -- NUMBERS RISE
 

@@ -8,52 +8,19 @@ use Rattle.s66_isa.specs.Lists.{some_of, tally}
 use Rattle.s66_isa.specs.declared.instr.Instr.{Instr}
 use Rattle.s66_line.specs.Block.{Block, line_of}
 use Rattle.s66_line.specs.Class.{is_code, is_instruction}
-use Rattle.s66_line.specs.Fields.{body, label_bytes}
 use Rattle.s66_line.specs.declared.class.Class.{Class}
-use Rattle.s66_line.specs.declared.class.Class.TheVariants.{Comment, Other, Refused, Pad, Instruction}
+use Rattle.s66_line.specs.declared.class.Class.TheVariants.{Other, Pad, Instruction}
 use Rattle.s66_isa.specs.declared.limits.TheConstants.{BLOCK_LIMIT}
 use Rattle.s66_source.specs.LeftAlone.{Flagged, Reading, class_at, flagged_lines}
 use Rattle.s66_source.specs.Printed.{Placed, copied_line}
 use Rattle.s66_source.specs.Replaced.{anew_text, begins, begun, line_text, others, owner, text_for, texts_of}
-use Rattle.s66_source.specs.Roles.{has_block, is_comment_class, is_dropped, is_leading, is_note, is_note_of, is_pad_class}
-use Rattle.s66_source.specs.Source.{Line, begins_block, block_of, blocks_of, classed_lines, classes_from, instructions, label_after, label_at, parts_of, place_after, place_at, put_before, run_after, run_at}
+use Rattle.s66_source.specs.Roles.{has_block, is_comment_class, is_dropped, is_leading, is_note, is_pad_class}
+use Rattle.s66_source.specs.Source.{Line, begins_block, block_of, blocks_of, classed_lines, classes_from, instructions, label_after, label_at, parts_of, place_after, place_at, run_after, run_at}
 use Rattle.s66_source.specs.declared.columns.Columns.{Columns}
-use Rattle.s66_source.proofs.ReaderBlocks.{Begins, fresh, from_class}
+use Rattle.s66_source.proofs.ReaderBlocks.{fresh, from_class, left, behind, behind-put, left-begins, behind-begins}
+use Rattle.s66_source.proofs.LineLaw.{no-note_in}
 
--- THE PARTS of the lines to come: what is left of the part that is begun, and the parts after it
-
-abbrev pub left : List (List Line) → List Line
-left [] = []
-left ([] ∷ parts) = []
-left ((l ∷ more) ∷ parts) = if begins_block l then [] else l ∷ more
-
-abbrev pub behind : List (List Line) → List (List Line)
-behind [] = []
-behind ([] ∷ parts) = parts
-behind ((l ∷ more) ∷ parts) = if begins_block l then (l ∷ more) ∷ parts else parts
-
-pub put-before : (l : Line) (parts : List (List Line)) → put_before l parts ≡ (l ∷ left parts) ∷ behind parts
-put-before l [] = refl
-put-before l ([] ∷ parts) = refl
-put-before l ((next ∷ more) ∷ parts) =
-    elim (begins_block next) as (λ t. (if t then (l ∷ []) ∷ (next ∷ more) ∷ parts else (l ∷ next ∷ more) ∷ parts) ≡ (l ∷ (if t then [] else next ∷ more)) ∷ (if t then (next ∷ more) ∷ parts else parts))
-    [ true ↦ refl | false ↦ refl ]
-
-pub left-put : (l : Line) (parts : List (List Line)) → left (put_before l parts) ≡ (if begins_block l then [] else l ∷ left parts)
-left-put l parts = ap left (put-before l parts)
-
-pub behind-put : (l : Line) (parts : List (List Line)) → behind (put_before l parts) ≡ (if begins_block l then (l ∷ left parts) ∷ behind parts else behind parts)
-behind-put l parts = ap behind (put-before l parts)
-
-pub left-begins : (parts : List (List Line)) → Begins parts → left parts ≡ []
-left-begins [] h = refl
-left-begins ([] ∷ parts) h = refl
-left-begins ((l ∷ more) ∷ parts) h = rw h refl
-
-pub behind-begins : (parts : List (List Line)) → Begins parts → behind parts ≡ parts
-behind-begins [] h = refl
-behind-begins ([] ∷ parts) h = absurd h
-behind-begins ((l ∷ more) ∷ parts) h = rw h refl
+-- THE PARTS of lines
 
 -- the parts of these lines
 abbrev pub parts_from : ℕ → ℕ → ℕ → List ℕ → Bool → List Flagged → List (List Line)
@@ -78,25 +45,22 @@ all-lower low high [] le h = tt
 all-lower low high ([] ∷ parts) le h = absurd h
 all-lower low high ((l ∷ more) ∷ parts) le h = (omega (arith, le, h.0), all-lower low high parts le h.1)
 
-all-put : (low : ℕ) (l : Line) (parts : List (List Line)) → low ≤ l.number → AllFrom low (behind parts) → AllFrom low (behind (put_before l parts))
-all-put low l parts le h =
-    subst (AllFrom low) (sym (behind-put l parts)) (elim (begins_block l) as (λ t. AllFrom low (if t then (l ∷ left parts) ∷ behind parts else behind parts)) [ true ↦ (le, h) | false ↦ h ])
+all-line : (l : Line) (rest : List Line) → AllFrom (suc l.number) (behind (parts_of (instructions rest))) → AllFrom l.number (behind (parts_of (instructions (l ∷ rest))))
+all-line l rest later = by_class (is_instruction l.class) (all-lower l.number (suc l.number) (behind (parts_of (instructions rest))) (omega arith) later)
+  where
+    by_class : (t : Bool) → AllFrom l.number (behind (parts_of (instructions rest))) → AllFrom l.number (behind (parts_of (if t then l ∷ instructions rest else instructions rest)))
+    by_class false h = h
+    by_class true h =
+        subst (AllFrom l.number) (sym (behind-put l (parts_of (instructions rest))))
+        (elim (begins_block l) as (λ t. AllFrom l.number (if t then (l ∷ left (parts_of (instructions rest))) ∷ behind (parts_of (instructions rest)) else behind (parts_of (instructions rest)))) [ true ↦ (omega arith, h) | false ↦ h ])
 
 pub all-from : (lines : List Flagged) (number run index : ℕ) (label : List ℕ) (after : Bool) → AllFrom number (behind (parts_from number run index label after lines))
 all-from [] number run index label after = tt
 all-from (line ∷ lines) number run index label after =
     let c : Class = class_at after line in
-    by_class c (all-lower number (suc number) (behind (parts_from (suc number) (run_after run c) (place_after index c) (label_after label c line.bytes) (is_code c) lines)) (omega arith)
-    (all-from lines (suc number) (run_after run c) (place_after index c) (label_after label c line.bytes) (is_code c)))
-  where
-    by_class : (c : Class) → AllFrom number (behind (parts_from (suc number) (run_after run c) (place_after index c) (label_after label c line.bytes) (is_code c) lines)) → AllFrom number (behind (parts_by number run index label c line.bytes lines))
-    by_class Comment rest = rest
-    by_class Other rest = rest
-    by_class Refused rest = rest
-    by_class (Pad located) rest = rest
-    by_class (Instruction located n) rest =
-        all-put number (record { number = number; bytes = line.bytes; class = Instruction located n; run = run_at run (Instruction located n); index = place_at index (Instruction located n); label = label_at label (Instruction located n) line.bytes })
-        (parts_from (suc number) (run_after run (Instruction located n)) (place_after index (Instruction located n)) (label_after label (Instruction located n) line.bytes) true lines) (omega arith) rest
+    all-line (record { number = number; bytes = line.bytes; class = c; run = run_at run c; index = place_at index c; label = label_at label c line.bytes })
+    (classes_from (suc number) (run_after run c) (place_after index c) (label_after label c line.bytes) (is_code c) lines)
+    (all-from lines (suc number) (run_after run c) (place_after index c) (label_after label c line.bytes) (is_code c))
 
 -- HOW MANY BLOCKS BEGAN
 
@@ -131,7 +95,7 @@ none-after number [] h = refl
 none-after number ([] ∷ parts) h = absurd h
 none-after number ((l ∷ more) ∷ parts) h = rw (ne_eqb l.number number (λ same. absurd (omega (arith, same, h.0)))) (none-after number parts h.1)
 
-some-append : {X : Type 0} (test : X → Bool) (xs ys : List X) → some_of test (xs ++ ys) ≡ (some_of test xs || some_of test ys)
+pub some-append : {X : Type 0} (test : X → Bool) (xs ys : List X) → some_of test (xs ++ ys) ≡ (some_of test xs || some_of test ys)
 some-append test [] ys = refl
 some-append test (x ∷ xs) ys = elim (test x) as (λ t. (t || some_of test (xs ++ ys)) ≡ ((t || some_of test xs) || some_of test ys)) [ true ↦ refl | false ↦ some-append test xs ys ]
 
@@ -192,48 +156,29 @@ abbrev pub AreTold : List Line → ℕ → List Line → Type 0
 AreTold all m [] = Unit {0}
 AreTold all m (l ∷ lines) = IsTold all l (first_of l) (count_after (first_of l) m) × AreTold all (count_after (first_of l) m) lines
 
-told-put : (all : List Line) (l : Line) (rest : List Line) (m : ℕ) → is_instruction l.class ≡ true → AllFrom (suc l.number) (behind (parts_of (instructions rest))) → Begun all l.number m (behind (put_before l (parts_of (instructions rest)))) →
+told-line : (all : List Line) (l : Line) (rest : List Line) (m : ℕ) → AllFrom (suc l.number) (behind (parts_of (instructions rest))) → Begun all l.number m (behind (parts_of (instructions (l ∷ rest)))) →
     ((k : ℕ) → Begun all (suc l.number) k (behind (parts_of (instructions rest))) → AreTold all k rest) → AreTold all m (l ∷ rest)
-told-put all l rest m is later b told =
-    let parts : List (List Line) = parts_of (instructions rest) in
-    subst (λ t. IsTold all l (t && begins_block l) (count_after (t && begins_block l) m) × AreTold all (count_after (t && begins_block l) m) rest) (sym is)
-    (by_begins (begins_block l) (subst (Begun all l.number m) (behind-put l parts) b))
+told-line all l rest m later b told = by_class (is_instruction l.class) b
   where
-    by_begins : (first : Bool) → Begun all l.number m (if first then (l ∷ left (parts_of (instructions rest))) ∷ behind (parts_of (instructions rest)) else behind (parts_of (instructions rest))) →
-        IsTold all l first (count_after first m) × AreTold all (count_after first m) rest
-    by_begins true b = (
-      first-told all l (left (parts_of (instructions rest))) m (behind (parts_of (instructions rest))) later b,
-      told (suc m) (begun-first all l (left (parts_of (instructions rest))) m (behind (parts_of (instructions rest))) b),
-    )
-    by_begins false b = (past-told all l m (behind (parts_of (instructions rest))) later b, told m (begun-past all l.number m (behind (parts_of (instructions rest))) later b))
+    parts : List (List Line)
+    parts = parts_of (instructions rest)
 
-told-past : (all : List Line) (l : Line) (rest : List Line) (m : ℕ) → is_instruction l.class ≡ false → AllFrom (suc l.number) (behind (parts_of (instructions rest))) → Begun all l.number m (behind (parts_of (instructions rest))) →
-    ((k : ℕ) → Begun all (suc l.number) k (behind (parts_of (instructions rest))) → AreTold all k rest) → AreTold all m (l ∷ rest)
-told-past all l rest m is later b told =
-    subst (λ t. IsTold all l (t && begins_block l) (count_after (t && begins_block l) m) × AreTold all (count_after (t && begins_block l) m) rest) (sym is)
-    (past-told all l m (behind (parts_of (instructions rest))) later b, told m (begun-past all l.number m (behind (parts_of (instructions rest))) later b))
+    by_first : (first : Bool) → Begun all l.number m (if first then (l ∷ left parts) ∷ behind parts else behind parts) → IsTold all l first (count_after first m) × AreTold all (count_after first m) rest
+    by_first true b = (first-told all l (left parts) m (behind parts) later b, told (suc m) (begun-first all l (left parts) m (behind parts) b))
+    by_first false b = (past-told all l m (behind parts) later b, told m (begun-past all l.number m (behind parts) later b))
+
+    by_class : (t : Bool) → Begun all l.number m (behind (parts_of (if t then l ∷ instructions rest else instructions rest))) → IsTold all l (t && begins_block l) (count_after (t && begins_block l) m) × AreTold all (count_after (t && begins_block l) m) rest
+    by_class true b = by_first (begins_block l) (subst (Begun all l.number m) (behind-put l parts) b)
+    by_class false b = by_first false b
 
 told-from : (all : List Line) (lines : List Flagged) (number run index m : ℕ) (label : List ℕ) (after : Bool) → Begun all number m (behind (parts_from number run index label after lines)) → AreTold all m (classes_from number run index label after lines)
 told-from all [] number run index m label after b = tt
 told-from all (line ∷ lines) number run index m label after b =
     let c : Class = class_at after line in
-    by_class c b (all-from lines (suc number) (run_after run c) (place_after index c) (label_after label c line.bytes) (is_code c))
+    told-line all (record { number = number; bytes = line.bytes; class = c; run = run_at run c; index = place_at index c; label = label_at label c line.bytes })
+    (classes_from (suc number) (run_after run c) (place_after index c) (label_after label c line.bytes) (is_code c) lines) m
+    (all-from lines (suc number) (run_after run c) (place_after index c) (label_after label c line.bytes) (is_code c)) b
     (λ k next. told-from all lines (suc number) (run_after run c) (place_after index c) k (label_after label c line.bytes) (is_code c) next)
-  where
-    by_class : (c : Class) → Begun all number m (behind (parts_by number run index label c line.bytes lines)) → AllFrom (suc number) (behind (parts_from (suc number) (run_after run c) (place_after index c) (label_after label c line.bytes) (is_code c) lines)) →
-        ((k : ℕ) → Begun all (suc number) k (behind (parts_from (suc number) (run_after run c) (place_after index c) (label_after label c line.bytes) (is_code c) lines)) →
-        AreTold all k (classes_from (suc number) (run_after run c) (place_after index c) (label_after label c line.bytes) (is_code c) lines)) →
-        AreTold all m (from_class number run index label c line.bytes lines)
-    by_class Comment b later told = told-past all (record { number = number; bytes = line.bytes; class = Comment; run = run; index = index; label = label }) (classes_from (suc number) run index label false lines) m refl later b told
-    by_class Other b later told = told-past all (record { number = number; bytes = line.bytes; class = Other; run = run; index = index; label = label }) (classes_from (suc number) (suc run) 0 [] false lines) m refl later b told
-    by_class Refused b later told = told-past all (record { number = number; bytes = line.bytes; class = Refused; run = run; index = index; label = label }) (classes_from (suc number) run index label false lines) m refl later b told
-    by_class (Pad false) b later told = told-past all (record { number = number; bytes = line.bytes; class = Pad false; run = run; index = index; label = label }) (classes_from (suc number) run index label true lines) m refl later b told
-    by_class (Pad true) b later told =
-        told-past all (record { number = number; bytes = line.bytes; class = Pad true; run = suc run; index = 0; label = label_bytes (body line.bytes) }) (classes_from (suc number) (suc run) 0 (label_bytes (body line.bytes)) true lines) m refl later b told
-    by_class (Instruction false n) b later told =
-        told-put all (record { number = number; bytes = line.bytes; class = Instruction false n; run = run; index = index; label = label }) (classes_from (suc number) run (suc index) label true lines) m refl later b told
-    by_class (Instruction true n) b later told =
-        told-put all (record { number = number; bytes = line.bytes; class = Instruction true n; run = suc run; index = 0; label = label_bytes (body line.bytes) }) (classes_from (suc number) (suc run) 1 (label_bytes (body line.bytes)) true lines) m refl later b told
 
 -- all lines of a source
 pub told-source : (source : Reading) → AreTold (classed_lines source) 0 (classed_lines source)
@@ -254,12 +199,8 @@ plain-text all texts l none = by_text (text_for texts (owner all l)) refl
     by_text None stated = inl (ap (λ text. line_text (begins all l) text l) stated)
     by_text (Some text) stated = inr (ap₂ (λ first text. line_text first text l) none stated)
 
-pub no-note_in : (l : Line) (blocks : List Block) → is_comment_class l.class ≡ false → some_of (is_note_of l) blocks ≡ false
-no-note_in l [] none = refl
-no-note_in l (block ∷ blocks) none = rw none (no-note_in l blocks none)
-
 -- if it has an owner
-abbrev owned_by : Bool → Bool → Bool → Bool → ℕ → ℕ
+abbrev pub owned_by : Bool → Bool → Bool → Bool → ℕ → ℕ
 owned_by instruction note dropped leading m = if instruction || note then m else (if dropped then (if leading then suc m else m) else 0)
 
 pub other-text : (all : List Line) (texts : List (Option (List ℕ))) (l : Line) → l.class ≡ Other → text_at all texts l ≡ copied_line l

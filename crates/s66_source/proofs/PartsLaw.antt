@@ -12,6 +12,7 @@ use Rattle.s66_source.specs.LeftAlone.{Reading, Flagged, class_at, flagged_lines
 use Rattle.s66_source.specs.BlockParts.{all_of, AreFull, AreParts}
 use Rattle.s66_line.specs.declared.class.Class.{Class}
 use Rattle.s66_line.specs.declared.class.Class.TheVariants.{Comment, Other, Refused, Pad, Instruction}
+use Rattle.s66_source.proofs.ReaderBlocks.{put-before}
 
 -- EACH LINE STANDS IN ONE PART
 
@@ -91,10 +92,7 @@ next-below index h =
     wrapped ∙ mod-eq_of_lt (elim (cases_lt (suc (index % BLOCK_LIMIT)) BLOCK_LIMIT) [ inl lt ↦ lt | inr ge ↦ absurd (h (wrapped ∙ whole (omega (arith, ge, below)))) ])
 
 Starts-put : (run index : ℕ) (l : Line) (parts : List (List Line)) → After run index l → Starts run index (put_before l parts)
-Starts-put run index l [] h = h
-Starts-put run index l ([] ∷ parts) h = h
-Starts-put run index l ((next ∷ more) ∷ parts) h =
-    elim (begins_block next) as (λ t. Starts run index (if t then (l ∷ []) ∷ (next ∷ more) ∷ parts else (l ∷ next ∷ more) ∷ parts)) [ true ↦ h | false ↦ h ]
+Starts-put run index l parts h = subst (Starts run index) (sym (put-before l parts)) h
 
 -- a line before the first part, which begins anew
 cut-begins : (l next : Line) (more : List Line) (parts : List (List Line)) → next.index % BLOCK_LIMIT ≡ 0 → After l.run (suc l.index) next → Cut ((next ∷ more) ∷ parts) → Cut ((l ∷ []) ∷ (next ∷ more) ∷ parts)

@@ -1,22 +1,19 @@
 -- The lines of a source with their classes, in order, and the blocks of an accepted one, as printing and the frame go over them.
-use Rattle.std.proofs.Common.{◌≡◌, ◌≤◌, ◌+◌, ℕ, suc, Bool, true, false, if◌then◌else◌, Option, None, Some, List, [], ◌∷◌, length, map, refl, sym, ap, ◌∙◌, subst, inl, inr, arith, nat_lt}
+use Rattle.std.proofs.Common.{◌≡◌, ◌≤◌, ◌+◌, ℕ, suc, Bool, true, false, if◌then◌else◌, None, List, [], ◌∷◌, length, map, refl, sym, ap, ◌∙◌, subst, inl, inr, arith}
 use Rattle.std.specs.Prelude.{Result, Ok}
-use Rattle.std.proofs.lemmas.Bool.{ltb-false}
 use Rattle.s66_isa.specs.Lists.{Among}
 use Rattle.s66_line.specs.Fields.{lines_of}
 use Rattle.s66_source.specs.LeftAlone.{Reading, Flagged, class_at, at_first, flagged_lines, redefined_by}
-use Rattle.s66_source.specs.Source.{Line, run_at, run_after, place_after, label_after, classes_from, classed_lines, refusal, operand_refusal, instructions, blocks_of, source_of}
+use Rattle.s66_source.specs.Source.{Line, run_at, run_after, place_after, label_after, classes_from, classed_lines, refusal, refusal_at, instructions, blocks_of, source_of, place_at, label_at}
 use Rattle.s66_line.specs.Block.{Block}
 use Rattle.s66_line.specs.Class.{is_instruction, is_code, ends_run}
 use Rattle.s66_line.specs.declared.class.Class.{Class}
 use Rattle.s66_line.specs.declared.class.Class.TheVariants.{Comment, Other, Refused, Pad, Instruction}
-use Rattle.s66_line.specs.declared.limits.TheConstants.{LINE_BYTES_LIMIT}
 use Rattle.s66_source.specs.declared.limits.TheConstants.{SOURCE_LINES_LIMIT}
 use Rattle.s66_source.specs.declared.error.SourceError.{SourceError}
-use Rattle.s66_source.specs.declared.error.SourceError.TheVariants.{LineTooLong, TooLarge}
 use Rattle.s66_source.proofs.ReaderBlocks.{Gives-accepted}
 use Rattle.s66_source.proofs.FlaggedLines.{length-flagged}
-use Rattle.s66_source.proofs.LineLaw.{no_refusal, neither, Rising}
+use Rattle.s66_source.proofs.LineLaw.{no_refusal, neither, Rising, taken-line}
 
 -- LINES IN ORDER: numbers that rise by one, runs that do not fall
 
@@ -66,9 +63,6 @@ of-instructions (l ∷ lines) m among = by_test (is_instruction l.class) refl (o
     by_test true stated later (inr among) = (inr (later among).0, (later among).1)
     by_test false stated later among = (inr (later among).0, (later among).1)
 
-pub first-line : (l m : Line) (ls ms : List Line) → l ∷ ls ≡ m ∷ ms → (l ≡ m) × (ls ≡ ms)
-first-line l m ls ms h = (cc, cc)
-
 -- A WHOLE SOURCE
 
 pub same-blocks : (found blocks : List Block) (read : Result (List Block) SourceError) → read ≡ Ok found → read ≡ Ok blocks → found ≡ blocks
@@ -77,18 +71,16 @@ same-blocks found blocks read h g = cc
 pub accepted-is : (source : Reading) (blocks : List Block) → source_of source ≡ Ok blocks → blocks_of (classed_lines source) ≡ blocks
 accepted-is source blocks accepted = same-blocks (blocks_of (classed_lines source)) blocks (source_of source) (Gives-accepted source blocks accepted) accepted
 
-pub not-many : (long many : Bool) (e f : SourceError) (o : Option SourceError) → (if long then Some e else (if many then Some f else o)) ≡ None → many ≡ false
-not-many true many e f o h = cc
-not-many false true e f o h = cc
-not-many false false e f o h = refl
-
 few-from : (lines : List Flagged) (count run index : ℕ) (label : List ℕ) (after : Bool) → count ≤ SOURCE_LINES_LIMIT → refusal (classes_from (suc count) run index label after lines) ≡ None → count + length lines ≤ SOURCE_LINES_LIMIT
 few-from [] count run index label after few taken = omega (arith, few)
 few-from (line ∷ lines) count run index label after few taken =
     let c : Class = class_at after line in
-    let both = neither _ _ taken in
-    let one = not-many (nat_lt LINE_BYTES_LIMIT (length line.bytes)) (nat_lt SOURCE_LINES_LIMIT (suc count)) (LineTooLong (suc count)) TooLarge (operand_refusal (suc count) c) both.0 in
-    omega (arith, few-from lines (suc count) (run_after run c) (place_after index c) (label_after label c line.bytes) (is_code c) (ltb-false SOURCE_LINES_LIMIT (suc count) one) both.1)
+    let l : Line = record { number = suc count; bytes = line.bytes; class = c; run = run_at run c; index = place_at index c; label = label_at label c line.bytes } in
+    let rest : List Line = classes_from (suc (suc count)) (run_after run c) (place_after index c) (label_after label c line.bytes) (is_code c) lines in
+    let both = neither (refusal_at l) (refusal rest) taken in
+    let here = taken-line l both.0 in
+    let later = few-from lines (suc count) (run_after run c) (place_after index c) (label_after label c line.bytes) (is_code c) here.few both.1 in
+    omega (arith, later)
 
 -- an accepted source has no more lines than are allowed
 pub few-lines : (source : Reading) (blocks : List Block) → source_of source ≡ Ok blocks → length (lines_of source.text) ≤ SOURCE_LINES_LIMIT

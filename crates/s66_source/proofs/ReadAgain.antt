@@ -23,13 +23,13 @@ use Rattle.s66_line.specs.declared.class.Class.{Class}
 use Rattle.s66_line.specs.declared.class.Class.TheVariants.{Comment, Other, Refused, Pad, Instruction}
 use Rattle.s66_isa.specs.declared.limits.TheConstants.{BLOCK_LIMIT}
 use Rattle.s66_source.proofs.CutLaw as cut_law
-use Rattle.s66_source.proofs.LineLaw.{neither, operand-none}
-use Rattle.s66_source.proofs.LineTexts.{AreTexts, AreTold, IsTold, behind, behind-put, chosen_text, count_after, first-given, instruction-text, left, left-put, none-left, other-text, others-given, pad-text, parts_by, parts_from, plain-text, text_at}
+use Rattle.s66_source.proofs.LineLaw.{neither, taken-line}
+use Rattle.s66_source.proofs.LineTexts.{AreTexts, AreTold, IsTold, chosen_text, count_after, first-given, instruction-text, none-left, other-text, others-given, pad-text, parts_by, parts_from, plain-text, text_at}
 use Rattle.s66_source.proofs.PrintedLines.{same-blocks}
 use Rattle.s66_source.proofs.ReadBlock.{Ended, IsSoundBlock, read-block, with_one, with_open-push}
 use Rattle.s66_source.proofs.ReadComments.{goes-copied, read_at, read-as, read-copied, comment-line, AreLinesOfSource}
 use Rattle.s66_source.proofs.ReadStanding.{flagged_at, goes_on, is_holding, taken, comment-stays, continues-body, IsQuiet}
-use Rattle.s66_source.proofs.ReaderBlocks.{from_class, full-index, labelled, length-push, next-index}
+use Rattle.s66_source.proofs.ReaderBlocks.{from_class, full-index, labelled, length-push, next-index, behind, behind-put, left, left-put}
 use Rattle.s66_source.proofs.SoundBlocks.{AllTexts, AreSoundBlocks, AreWithin, located-label}
 use Rattle.s66_source.proofs.Standings.{code-line, code-stays, same-redefined}
 use Rattle.s66_line.proofs.Wholes.{is_inside}
@@ -37,6 +37,9 @@ use Rattle.s66_line.proofs.Wholes.{is_inside}
 code-taken : (alone : Bool) (c : Class) → is_code (if alone then Other else c) ≡ true → (alone ≡ false) × (is_code c ≡ true)
 code-taken true c h = absurd (true≢false (sym h))
 code-taken false c h = (refl, h)
+
+refused-none : (number : ℕ) (c : Class) → c ≡ Refused → operand_refusal number c ≡ None → ⊥
+refused-none number c is none = (let some : operand_refusal number Refused ≡ None = ap (operand_refusal number) (sym is) ∙ none in cc)
 
 -- CODE that isn't left alone: what stands is as it was, and no continuation comes next
 pub record IsLeft (cut : Bool) (s : Standing) (line : List ℕ) (lines : List (List ℕ)) : Type 0 where
@@ -103,13 +106,6 @@ module _ (all : List Line) (texts : List (Option (List ℕ))) (ends : AllTexts (
       (later (after_line true s line) (suc number) (suc run) 0 m [] false insides told.1)
   goes-class Refused s number run index m label after line lines later stated inside insides told =
       absurd (refused-none number (class_at after (flagged_at true s line (is_continued lines))) stated (cut_law.none-refused number after (is_continued lines) s line))
-    where
-      refused-none : (number : ℕ) (c : Class) → c ≡ Refused → operand_refusal number c ≡ None → ⊥
-      refused-none number Refused is none = cc
-      refused-none number Comment is none = cc
-      refused-none number Other is none = cc
-      refused-none number (Pad located) is none = cc
-      refused-none number (Instruction located i) is none = cc
   goes-class (Pad located) s number run index m label after line lines later stated inside insides told =
       let c : Class = Pad located in
       let l : Line = record { number = number; bytes = line; class = c; run = run_at run c; index = place_at index c; label = label_at label c line } in
@@ -163,17 +159,13 @@ complete-others block (b ∷ blocks) [] h = tt
 complete-others block blocks (None ∷ given) h = h
 complete-others block blocks (Some p ∷ given) h = h.1
 
-some-same : (p q : Placed) → Some p ≡ Some q → p ≡ q
-some-same p q h = cc
-
-not-some : {X : Type 0} (p : Placed) → None ≡ Some p → X
-not-some p h = cc
-
 -- the order of the first
 first-order : (block : Block) (blocks : List Block) (given : List (Option Placed)) (p : Placed) → AreGiven (block ∷ blocks) given → AreComplete (block ∷ blocks) given → get_or given 0 None ≡ Some p → AreWithin block p.order × (length p.order ≡ length block.entries)
-first-order block blocks [] p within complete is = not-some p is
-first-order block blocks (None ∷ given) p within complete is = not-some p is
-first-order block blocks (Some q ∷ given) p within complete is = subst (λ (r : Placed). AreWithin block r.order × (length r.order ≡ length block.entries)) (some-same q p is) (within.0, complete.0)
+first-order block blocks [] p within complete is = cc
+first-order block blocks (None ∷ given) p within complete is = cc
+first-order block blocks (Some q ∷ given) p within complete is =
+    let same : q ≡ p = cc in
+    subst (λ (r : Placed). AreWithin block r.order × (length r.order ≡ length block.entries)) same (within.0, complete.0)
 
 -- WHAT IS READ
 
@@ -262,14 +254,7 @@ pub rest-taken : (l : Line) (lines : List Line) → refusal (l ∷ lines) ≡ No
 rest-taken l lines h = (neither (refusal_at l) (refusal lines) h).1
 
 pub none-refused : (number : ℕ) (lines : List Line) (l : Line) → l.class ≡ Refused → refusal (l ∷ lines) ≡ None → ⊥
-none-refused number lines l stated taken = by_class l.class stated (operand-none (l ∷ lines) l taken (inl refl))
-  where
-    by_class : (c : Class) → c ≡ Refused → operand_refusal l.number c ≡ None → ⊥
-    by_class Refused is none = cc
-    by_class Comment is none = cc
-    by_class Other is none = cc
-    by_class (Pad located) is none = cc
-    by_class (Instruction located i) is none = cc
+none-refused number lines l stated taken = refused-none l.number l.class stated (taken-line l (neither _ _ taken).0).operand
 
 -- a comment changes nothing of what stands
 pub stays-comment : (cut : Bool) (s : Standing) (after continued : Bool) (line : List ℕ) → class_at after (flagged_at cut s line continued) ≡ Comment → after_line cut s line ≡ s
@@ -381,12 +366,9 @@ module _ (cut quiet : Bool) (columns : Columns) (known : Redefined) (all : List 
             | inl kept ↦ kept-so kept
             | inr gone ↦
                 reads false (after_line cut s line) (suc number) (suc run) 0 m new true given t again insides same (rest-taken l rest taken) told.1 due
-                (ready-labelled flagged (suc number) (suc run) m new true t filled (λ none. some-none text (sym is ∙ none)))
+                (ready-labelled flagged (suc number) (suc run) m new true t filled (λ none. cc))
                 (gone-line s l rest t again gone (left-by cut s after line lines (ap is_code stated)).stays h)
           ]
-        where
-          some-none : {X : Type 0} (text : List ℕ) → Some text ≡ None → X
-          some-none text h = cc
 
   reads-other : (line : List ℕ) (lines : List (List ℕ)) → Reads lines → ReadsClass Other line lines
   reads-other line lines reads stands s number run index m label after given t again stated inside insides same taken told due ready h =

@@ -1,5 +1,5 @@
 -- A line that is printed as it was read is read as it was: its class, and what its end loses (`copied_law`).
-use Rattle.std.proofs.Common.{◌≡◌, ◌&&◌, not, ℕ, Bool, true, false, if◌then◌else◌, List, [], ◌∷◌, ◌++◌, refl, sym, ap, ◌∙◌, append_assoc}
+use Rattle.std.proofs.Common.{◌≡◌, ◌&&◌, not, ℕ, Bool, true, false, if◌then◌else◌, List, [], ◌∷◌, ◌++◌, refl, sym, ap, ◌∙◌, append_assoc, subst}
 use Rattle.std.proofs.lemmas.Bool.{and_parts, not-true}
 use Rattle.std.proofs.lemmas.List.{append-nil}
 use Rattle.s66_isa.specs.Lists.{every}
@@ -9,28 +9,35 @@ use Rattle.s66_line.specs.declared.class.Class.{Class}
 use Rattle.s66_line.specs.declared.class.Class.TheVariants.{Comment, Other, Refused}
 use Rattle.s66_line.proofs.LineCuts.{lines_from-here, lines_from-later}
 
--- what is left of a list that does not pass does not pass
-first-passes : (t : Bool) (test : ℕ → Bool) (bytes : List ℕ) → (every test bytes ≡ false → every test (trim test bytes) ≡ false) → (t && every test bytes) ≡ false → (t && every test (trim test bytes)) ≡ false
-first-passes true test bytes later h = later h
-first-passes false test bytes later h = refl
-
-pub every-trim : (test : ℕ → Bool) (bytes : List ℕ) → every test bytes ≡ false → every test (trim test bytes) ≡ false
-every-trim test [] h = cc
-every-trim test (b ∷ bytes) h = rw h (first-passes (test b) test bytes (every-trim test bytes) h)
+pub trim-all : (test : ℕ → Bool) (bytes : List ℕ) → every test bytes ≡ true → trim test bytes ≡ []
+trim-all test [] h = refl
+trim-all test (b ∷ bytes) h = rw h refl
 
 pub trim-kept : (test : ℕ → Bool) (b : ℕ) (bytes : List ℕ) → every test (b ∷ bytes) ≡ false → trim test (b ∷ bytes) ≡ b ∷ trim test bytes
 trim-kept test b bytes h = rw h refl
 
-trim-by : (t : Bool) (test : ℕ → Bool) (b : ℕ) (bytes : List ℕ) → every test (b ∷ bytes) ≡ t → trim test (trim test bytes) ≡ trim test bytes →
-    trim test (if t then [] else b ∷ trim test bytes) ≡ (if t then [] else b ∷ trim test bytes)
-trim-by true test b bytes stated ih = refl
-trim-by false test b bytes stated ih =
-    trim-kept test b (trim test bytes) (first-passes (test b) test bytes (every-trim test bytes) stated) ∙ ap (λ bs. b ∷ bs) ih
+-- BY A NARROWER TEST nothing more is cut off
+module _ (test wide : ℕ → Bool) (within : (b : ℕ) → test b ≡ true → wide b ≡ true) where
+  -- what is left of bytes that do not pass does not pass
+  pub every-trim : (bytes : List ℕ) → every wide bytes ≡ false → every test (trim wide bytes) ≡ false
+  every-trim [] h = cc
+  every-trim (b ∷ bytes) h = rw h (by_first (test b) refl h (every-trim bytes))
+    where
+      by_first : (t : Bool) → test b ≡ t → (wide b && every wide bytes) ≡ false → (every wide bytes ≡ false → every test (trim wide bytes) ≡ false) → (t && every test (trim wide bytes)) ≡ false
+      by_first true stated h later = later (subst (λ w. (w && every wide bytes) ≡ false) (within b stated) h)
+      by_first false stated h later = refl
 
--- nothing more is cut off
+  pub trim-within : (bytes : List ℕ) → trim test (trim wide bytes) ≡ trim wide bytes
+  trim-within [] = refl
+  trim-within (b ∷ bytes) = by_all (every wide (b ∷ bytes)) refl (trim-within bytes)
+    where
+      by_all : (t : Bool) → every wide (b ∷ bytes) ≡ t → trim test (trim wide bytes) ≡ trim wide bytes → trim test (if t then [] else b ∷ trim wide bytes) ≡ (if t then [] else b ∷ trim wide bytes)
+      by_all true stated later = refl
+      by_all false stated later =
+          trim-kept test b (trim wide bytes) (ap (every test) (sym (trim-kept wide b bytes stated)) ∙ every-trim (b ∷ bytes) stated) ∙ ap (λ bs. b ∷ bs) later
+
 pub trim-twice : (test : ℕ → Bool) (bytes : List ℕ) → trim test (trim test bytes) ≡ trim test bytes
-trim-twice test [] = refl
-trim-twice test (b ∷ bytes) = trim-by (every test (b ∷ bytes)) test b bytes refl (trim-twice test bytes)
+trim-twice test bytes = trim-within test test (λ b is. is) bytes
 
 abbrev pub class_of_body : Bool → List ℕ → Class
 class_of_body after line =

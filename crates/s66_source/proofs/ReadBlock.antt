@@ -1,6 +1,6 @@
 -- The lines of a block that is printed anew, read again, are the block in its placed order.
 use Rattle.std.proofs.Common.{◌≡◌, ◌≤◌, ◌<◌, ◌+◌, ◌-◌, ℕ, zero, suc, Bool, true, false, if◌then◌else◌, List, [], ◌∷◌, ◌++◌, Some, get_or, length, map, refl, sym, ap, ◌∙◌, subst, inl, inr, arith, append_assoc, eqb, ap₂, ◌&&◌}
-use Rattle.std.specs.Prelude.{None, Ok, slice_get}
+use Rattle.std.specs.Prelude.{Ok, slice_get}
 use Rattle.std.proofs.lemmas.Bool.{and_right, ne_eqb, eqb-false}
 use Rattle.s66_isa.specs.declared.instr.Instr.{Instr}
 use Rattle.s66_isa.specs.Lists.{Among, every}
@@ -22,10 +22,9 @@ use Rattle.s66_line.specs.declared.class.Class.TheVariants.{Instruction}
 use Rattle.s66_isa.specs.declared.limits.TheConstants.{BLOCK_LIMIT}
 use Rattle.s66_line.proofs.BlockEntries.{instr_at-entry}
 use Rattle.s66_source.proofs.ReadLine.{IsLabel, inside-start}
-use Rattle.s66_source.specs.LeftAlone.{is_alone}
+use Rattle.s66_source.specs.LeftAlone.{is_alone, Standing}
 use Rattle.s66_source.specs.Redefined.{Redefined}
 use Rattle.s66_source.proofs.FarOperands.{Fits, clear-printed, is_unclear, read-start}
-use Rattle.s66_source.specs.LeftAlone.{Standing}
 use Rattle.s66_source.proofs.Standings.{code-line, code-stays}
 use Rattle.s66_source.proofs.ReadStanding.{is_holding, not-alone, code-unflagged, continues-body, goes_on, goes-line, IsQuiet}
 use Rattle.s66_source.proofs.ReadComments.{read_at, read-as, read-class, taken-class, Comments, Passes, passes-comments, comments-append, comments-nothing, comments-quiet, quiet-behind, comments-report, AreLinesOfSource, comments-notes}
@@ -78,16 +77,10 @@ AreFitting cut columns all (e ∷ es) = Fits cut (indent columns (bytes_on all e
 abbrev pub FitsAt : Bool → List ℕ → Block → ℕ → Type 0
 FitsAt cut blanks block n = Fits cut (get_or blanks (n - 1) 0) (bytes_of block n)
 
-no_entry : {X : Type 0} (e : Entry) → None ≡ Some e → X
-no_entry e h = cc
-
-same-entry : (a e : Entry) → Some a ≡ Some e → a ≡ e
-same-entry a e h = cc
-
 fitting : (cut : Bool) (columns : Columns) (all : List Line) (entries : List Entry) (n : ℕ) (e : Entry) → slice_get entries n ≡ Some e → AreFitting cut columns all entries →
     Fits cut (get_or (map (λ (e : Entry). indent columns (bytes_on all e.line)) entries) n 0) e.bytes
-fitting cut columns all [] n e here are = no_entry e here
-fitting cut columns all (a ∷ entries) zero e here are = subst (λ (b : Entry). Fits cut (indent columns (bytes_on all a.line)) b.bytes) (same-entry a e here) are.0
+fitting cut columns all [] n e here are = cc
+fitting cut columns all (a ∷ entries) zero e here are = (let same : a ≡ e = cc in subst (λ (b : Entry). Fits cut (indent columns (bytes_on all a.line)) b.bytes) same are.0)
 fitting cut columns all (a ∷ entries) (suc n) e here are = fitting cut columns all entries n e here are.1
 
 -- a block whose instructions were read

@@ -1,34 +1,31 @@
 -- The lines of a printed text read one by one; the report of a block and its notes change nothing.
-use Rattle.std.proofs.Common.{◌≡◌, ◌+◌, ◌%◌, ◌/◌, ◌==◌, ◌&&◌, ℕ, zero, suc, Bool, true, false, if◌then◌else◌, true≢false, List, [], ◌∷◌, ◌++◌, Option, None, Some, is_some, codes, decimal, length, refl, sym, ap, ap₂, ◌∙◌, subst, arith, nat_le, nat_lt, append_assoc}
-use Rattle.s66_line.specs.InstructionText.{operation_in}
+use Rattle.std.proofs.Common.{◌≡◌, ◌+◌, ◌%◌, ◌/◌, ◌==◌, ◌&&◌, ℕ, zero, suc, Bool, true, false, if◌then◌else◌, List, [], ◌∷◌, ◌++◌, Option, None, Some, codes, decimal, length, refl, sym, ap, ap₂, ◌∙◌, subst, arith, nat_le, nat_lt, append_assoc}
 use Rattle.std.specs.Prelude.{Result, Ok, Err}
 use Rattle.std.specs.Fmt.{digits, digits_onto, digit_glyph}
 use Rattle.std.proofs.lemmas.Bool.{and_parts, and_right, ne_eqb}
 use Rattle.std.proofs.lemmas.List.{append-nil}
 use Rattle.s66_isa.specs.Lists.{every}
-use Rattle.s66_isa.specs.declared.instr.Instr.{Instr}
 use Rattle.s66_line.specs.Fields.{is_return, lines_of, body, is_comment, continues, from_operation, label_bytes}
-use Rattle.s66_line.specs.Operand.{operation_of}
 use Rattle.s66_source.specs.Source.{Line, run_after, place_after, label_after, classes_from, operand_refusal}
 use Rattle.s66_line.specs.Block.{Block, line_of}
-use Rattle.s66_line.specs.Class.{class_of, class_of_operand, is_pad, is_located, by_operation, is_code, whole_instr}
-use Rattle.s66_source.specs.LeftAlone.{Flagged, after_line, class_at, is_alone, is_continued, is_doubtful, flagged_from}
+use Rattle.s66_line.specs.Class.{class_of, is_located, by_operation, is_code}
+use Rattle.s66_source.specs.LeftAlone.{Flagged, after_line, class_at, is_alone, is_continued, is_doubtful, flagged_from, Standing}
 use Rattle.s66_source.specs.Roles.{is_comment_class, is_note_of}
 use Rattle.s66_source.specs.Printed.{Placed, splits_line, bound_text, times_text, report, copied_line, notes_text}
 use Rattle.s66_source.specs.Reader.{SourceState, with_open, count_line, by_class, line_step, lines_step, and_then, read_from}
 use Rattle.s66_line.specs.declared.class.Class.{Class}
-use Rattle.s66_line.specs.declared.class.Class.TheVariants.{Comment, Other, Refused, Pad}
+use Rattle.s66_line.specs.declared.class.Class.TheVariants.{Comment, Other, Refused}
 use Rattle.s66_line.specs.declared.limits.TheConstants.{LINE_BYTES_LIMIT}
 use Rattle.s66_source.specs.declared.limits.TheConstants.{SOURCE_LINES_LIMIT}
 use Rattle.s66_source.specs.declared.error.SourceError.{SourceError}
 use Rattle.s66_source.specs.declared.error.SourceError.TheVariants.{LineTooLong, TooLarge}
-use Rattle.s66_source.specs.LeftAlone.{Standing}
 use Rattle.s66_source.proofs.FlaggedLines.{same-alone}
 use Rattle.s66_source.proofs.ReadBack.{trim-twice, lines_of-line}
 use Rattle.s66_source.proofs.ReadStanding.{flagged_at, is_holding, is_flagged, taken, not-alone, alone-body, after-body, flagged-body, class_at-body, continues-body, comment-stays, IsQuiet, goes_on, goes-line}
 use Rattle.s66_source.proofs.ReadLine.{every-trimmed}
 use Rattle.s66_source.proofs.ReaderBlocks.{then-then}
 use Rattle.s66_line.proofs.Wholes.{is_inside, every-append}
+use Rattle.s66_source.proofs.Classes.{class-tells}
 
 -- a text read after what stands
 abbrev pub read_at : Bool → Standing → SourceState → List ℕ → Result (List Block) SourceError
@@ -226,35 +223,32 @@ pub inside-decimal : (n : ℕ) → every is_inside (decimal n) ≡ true
 unfolding digits
 inside-decimal n = inside-onto 64 n [] refl
 
-inside-append : (first second : List ℕ) → every is_inside first ≡ true → every is_inside second ≡ true → every is_inside (first ++ second) ≡ true
-inside-append first second h k = every-append is_inside first second h k
-
 pub inside-times : (n count source time : ℕ) → every is_inside (times_text n count source time) ≡ true
 inside-times n count source time =
-    inside-append (codes "* BLOCK " ++ decimal n ++ codes " COUNT " ++ decimal count ++ codes " SOURCE " ++ decimal source ++ codes " TIME ") (decimal time)
-    (inside-append (codes "* BLOCK " ++ decimal n ++ codes " COUNT " ++ decimal count ++ codes " SOURCE " ++ decimal source) (codes " TIME ")
-    (inside-append (codes "* BLOCK " ++ decimal n ++ codes " COUNT " ++ decimal count ++ codes " SOURCE ") (decimal source)
-    (inside-append (codes "* BLOCK " ++ decimal n ++ codes " COUNT " ++ decimal count) (codes " SOURCE ")
-    (inside-append (codes "* BLOCK " ++ decimal n ++ codes " COUNT ") (decimal count)
-    (inside-append (codes "* BLOCK " ++ decimal n) (codes " COUNT ")
-    (inside-append (codes "* BLOCK ") (decimal n) refl (inside-decimal n)) refl) (inside-decimal count)) refl) (inside-decimal source)) refl) (inside-decimal time)
+    every-append is_inside (codes "* BLOCK " ++ decimal n ++ codes " COUNT " ++ decimal count ++ codes " SOURCE " ++ decimal source ++ codes " TIME ") (decimal time)
+    (every-append is_inside (codes "* BLOCK " ++ decimal n ++ codes " COUNT " ++ decimal count ++ codes " SOURCE " ++ decimal source) (codes " TIME ")
+    (every-append is_inside (codes "* BLOCK " ++ decimal n ++ codes " COUNT " ++ decimal count ++ codes " SOURCE ") (decimal source)
+    (every-append is_inside (codes "* BLOCK " ++ decimal n ++ codes " COUNT " ++ decimal count) (codes " SOURCE ")
+    (every-append is_inside (codes "* BLOCK " ++ decimal n ++ codes " COUNT ") (decimal count)
+    (every-append is_inside (codes "* BLOCK " ++ decimal n) (codes " COUNT ")
+    (every-append is_inside (codes "* BLOCK ") (decimal n) refl (inside-decimal n)) refl) (inside-decimal count)) refl) (inside-decimal source)) refl) (inside-decimal time)
 
 -- the line of the times, up to this end
 comments-times : (cut : Bool) (n count source time : ℕ) (end : List ℕ) → every is_inside end ≡ true → Comments cut (times_text n count source time ++ (end ++ codes "\n"))
 comments-times cut n count source time end inside =
     let times : List ℕ = times_text n count source time in
-    subst (Comments cut) (append_assoc times end (codes "\n")) (comments-line cut (times ++ end) (and_right cut false refl, inside-append times end (inside-times n count source time) inside, refl))
+    subst (Comments cut) (append_assoc times end (codes "\n")) (comments-line cut (times ++ end) (and_right cut false refl, every-append is_inside times end (inside-times n count source time) inside, refl))
 
 comments-splits : (cut : Bool) (splits : Option ℕ) → Comments cut (splits_line splits)
 comments-splits cut None = comments-nothing cut
 comments-splits cut (Some splits) =
-    comments-line cut (codes "* SPLITS " ++ decimal splits) (and_right cut false refl, inside-append (codes "* SPLITS ") (decimal splits) refl (inside-decimal splits), refl)
+    comments-line cut (codes "* SPLITS " ++ decimal splits) (and_right cut false refl, every-append is_inside (codes "* SPLITS ") (decimal splits) refl (inside-decimal splits), refl)
 
 comments-first : (cut : Bool) (n count : ℕ) (p : Placed) → Comments cut (times_text n count p.source p.time ++ bound_text p)
 comments-first cut n count p =
     elim (p.bound == p.time) as (λ t. Comments cut (times_text n count p.source p.time ++ (if t then codes " BEST\n" else (codes " AT LEAST " ++ decimal p.bound ++ codes "\n")))) [
       | true ↦ comments-times cut n count p.source p.time (codes " BEST") refl
-      | false ↦ comments-times cut n count p.source p.time (codes " AT LEAST " ++ decimal p.bound) (inside-append (codes " AT LEAST ") (decimal p.bound) refl (inside-decimal p.bound))
+      | false ↦ comments-times cut n count p.source p.time (codes " AT LEAST " ++ decimal p.bound) (every-append is_inside (codes " AT LEAST ") (decimal p.bound) refl (inside-decimal p.bound))
     ]
 
 pub comments-report : (cut : Bool) (n count : ℕ) (p : Placed) → Comments cut (report n count p)
@@ -284,27 +278,10 @@ lines-of_source cut s (line ∷ lines) number run index label after h =
       lines-of_source cut (after_line cut s line) lines (suc number) (run_after run c) (place_after index c) (label_after label c line) (is_code c) both.1,
     )
 
-no-comment : (pad known located : Bool) (n : Option Instr) → is_comment_class (if pad then Pad located else (if known then class_of_operand located n else Other)) ≡ false
-no-comment true known located n = refl
-no-comment false false located n = refl
-no-comment false true located None = refl
-no-comment false true located (Some n) = refl
-
-comment-parts : (alone comment comma after : Bool) (c : Class) → is_comment_class c ≡ false →
-    is_comment_class (if alone then Other else (if comment then Comment else (if comma then (if after then Refused else Other) else c))) ≡ true → (alone ≡ false) × (comment ≡ true)
-comment-parts true comment comma after c none h = absurd (true≢false (sym h))
-comment-parts false true comma after c none h = (refl, refl)
-comment-parts false false true true c none h = absurd (true≢false (sym h))
-comment-parts false false true false c none h = absurd (true≢false (sym h))
-comment-parts false false false after c none h = absurd (true≢false (sym h ∙ none))
-
 -- a comment isn't left alone, and is one without the class
 pub comment-line : (after alone : Bool) (line : List ℕ) → is_comment_class (class_at after (record { alone = alone; bytes = line })) ≡ true → (alone ≡ false) × (is_comment (body line) ≡ true)
-comment-line after alone line h =
-    let there : List ℕ = body line in
-    let bytes : List ℕ = from_operation there in
-    comment-parts alone (is_comment there) (continues there) after (by_operation (is_located there) bytes)
-    (no-comment (is_pad (operation_in bytes)) (is_some (operation_of (operation_in bytes))) (is_located there) (whole_instr bytes)) h
+comment-line after true line h = cc
+comment-line after false line h = (refl, (class-tells after line).comment h)
 
 comments-note : (cut : Bool) (l : Line) → IsOfSource cut l → is_comment_class l.class ≡ true → Comments cut (body l.bytes ++ codes "\n")
 comments-note cut l is comment =
@@ -312,7 +289,7 @@ comments-note cut l is comment =
     let unflagged = flagged-body cut l.bytes ∙ (taken cut is.standing l.bytes is.continued parts.0).unflagged in
     comments-line cut (body l.bytes) (unflagged, every-trimmed is_inside is_return l.bytes is.inside, ap is_comment (trim-twice is_return l.bytes) ∙ parts.1)
 
-note-comment : (l : Line) (block : Block) → is_note_of l block ≡ true → is_comment_class l.class ≡ true
+pub note-comment : (l : Line) (block : Block) → is_note_of l block ≡ true → is_comment_class l.class ≡ true
 note-comment l block h =
     (and_parts (is_comment_class l.class) (nat_lt (line_of block 1) l.number)
     (and_parts (is_comment_class l.class && nat_lt (line_of block 1) l.number) (nat_lt l.number (line_of block (length block.entries))) h).0).0

@@ -1,6 +1,6 @@
 -- An instruction line that is printed, read again.
 use Rattle.std.proofs.Common.{◌≡◌, ◌<◌, ◌≤◌, ◌+◌, ◌-◌, ◌==◌, ◌&&◌, ◌||◌, ℕ, zero, suc, Bool, true, false, not, if◌then◌else◌, true≢false, List, [], ◌∷◌, ◌++◌, Option, None, Some, is_some, option_and_then, length, replicate, refl, sym, ap, ap₂, ◌∙◌, subst, arith, eqb-true, nat_le, nat_lt, append_assoc, length-append}
-use Rattle.std.proofs.lemmas.Bool.{and_parts, and_from, or_parts, not-true, ne_eqb, lt-ltb, ltb-true, lt-leb}
+use Rattle.std.proofs.lemmas.Bool.{and_parts, and_from, or_parts, not-true, ne_eqb, lt-ltb, ltb-true, lt-leb, or_right}
 use Rattle.std.proofs.lemmas.List.{length-replicate}
 use Rattle.std.proofs.Math.Bool.{and-false}
 use Rattle.s66_isa.specs.declared.instr.Instr.{Instr}
@@ -8,24 +8,20 @@ use Rattle.s66_isa.specs.Lists.{every}
 use Rattle.s66_line.specs.Fields.{is_blank, is_newline, is_return, trim, body, upper, skip_blanks, word, after_word, blanks, is_comment, from_location, from_operation, continues, label_bytes, is_trailing}
 use Rattle.s66_line.specs.Operand.{is_filled, operation_of, decode, instr_of}
 use Rattle.s66_line.specs.InstructionText.{operation_in, operand_in, Spells}
-use Rattle.s66_line.specs.Class.{class_of, class_of_operand, is_pad, is_located, by_operation, begins_run, whole_instr}
+use Rattle.s66_line.specs.Class.{class_of, is_pad, is_located, by_operation, begins_run}
 use Rattle.s66_source.specs.Columns.{line_start}
 use Rattle.s66_source.specs.Printed.{label_field}
-use Rattle.s66_line.specs.declared.class.Class.{Class}
-use Rattle.s66_line.specs.declared.class.Class.TheVariants.{Comment, Other, Refused, Pad, Instruction}
+use Rattle.s66_line.specs.declared.class.Class.TheVariants.{Instruction}
 use Rattle.s66_line.proofs.InstructionTexts.{is_no_blank, no_blank-word, filled-parts, word-before, after-before}
 use Rattle.s66_line.proofs.LineFields.{skip_blanks-no, from_location-no, label-no, indented_no}
 use Rattle.s66_line.proofs.NoLineEnds.{ends_no_line, EndsNoLine, spelled-ends_no_line, ends_no_line-upper}
 use Rattle.s66_source.proofs.CharactersRead.{SpellsAll, characters_in-trimmed, whole-trimmed}
 use Rattle.s66_line.specs.Characters.{characters_in, rest_in, runs_on}
-use Rattle.s66_source.proofs.ReadBack.{trim-kept, class_of_body}
+use Rattle.s66_source.proofs.ReadBack.{trim-kept, class_of_body, trim-all, every-trim, trim-within}
 use Rattle.s66_line.proofs.Wholes.{is_inside, every-append}
+use Rattle.s66_source.proofs.Classes.{class-tells}
 
 -- WITHOUT THE TRAILING BYTES
-
-pub trim-all : (test : ℕ → Bool) (bytes : List ℕ) → every test bytes ≡ true → trim test bytes ≡ []
-trim-all test [] h = refl
-trim-all test (b ∷ bytes) h = rw h refl
 
 trim-front : (b : ℕ) (bytes : List ℕ) → is_blank b ≡ false → ends_no_line b ≡ true → trim is_trailing (b ∷ bytes) ≡ b ∷ trim is_trailing bytes
 trim-front b bytes stated h = trim-kept is_trailing b bytes (first (is_blank b) (is_return b) stated (or_parts (is_newline b) (is_return b) (not-true (is_newline b || is_return b) h)).1)
@@ -109,7 +105,7 @@ all-again bytes n is =
 pub characters-again : (bytes : List ℕ) (n : Instr) → Spells bytes n → characters_in (trim is_trailing bytes) ≡ characters_in bytes
 characters-again bytes n spells = characters_in-trimmed bytes (trim is_trailing bytes) (ap upper (operand-again bytes n spells)) (rest-again bytes n spells)
 
-filled-upper : (bytes : List ℕ) → is_filled (upper bytes) ≡ is_filled bytes
+pub filled-upper : (bytes : List ℕ) → is_filled (upper bytes) ≡ is_filled bytes
 filled-upper [] = refl
 filled-upper (b ∷ bytes) = refl
 
@@ -143,38 +139,17 @@ pub every-behind : (test : ℕ → Bool) (front bytes : List ℕ) → every test
 every-behind test [] bytes h = h
 every-behind test (b ∷ front) bytes h = rw (every-behind test front bytes h) (and-false (test b))
 
-trim-behind : (test : ℕ → Bool) (front bytes : List ℕ) → every test bytes ≡ false → trim test bytes ≡ bytes → trim test (front ++ bytes) ≡ front ++ bytes
-trim-behind test [] bytes h k = k
-trim-behind test (b ∷ front) bytes h k = trim-kept test b (front ++ bytes) (every-behind test (b ∷ front) bytes h) ∙ ap (λ bs. b ∷ bs) (trim-behind test front bytes h k)
+pub trim-behind : (test : ℕ → Bool) (front bytes : List ℕ) → every test bytes ≡ false → trim test (front ++ bytes) ≡ front ++ trim test bytes
+trim-behind test [] bytes h = refl
+trim-behind test (b ∷ front) bytes h = trim-kept test b (front ++ bytes) (every-behind test (b ∷ front) bytes h) ∙ ap (λ bs. b ∷ bs) (trim-behind test front bytes h)
 
-abbrev EndsWell : List ℕ → Type 0
-EndsWell bytes = (every is_return bytes ≡ false) × (trim is_return bytes ≡ bytes)
-
-neither : (a b : Bool) → ((a || b) && true) ≡ false → b ≡ false
-neither true b h = absurd (true≢false h)
-neither false true h = absurd (true≢false h)
-neither false false h = refl
-
-ends-alone : (b : ℕ) → is_return b ≡ false → EndsWell (b ∷ [])
-ends-alone b h = let none : (is_return b && true) ≡ false = rw h refl in (none, trim-kept is_return b [] none)
-
-ends-front : (b : ℕ) (bytes : List ℕ) → EndsWell bytes → EndsWell (b ∷ bytes)
-ends-front b bytes h =
-    let some : every is_return (b ∷ bytes) ≡ false = every-behind is_return (b ∷ []) bytes h.0 in
-    (some, trim-kept is_return b bytes some ∙ ap (λ bs. b ∷ bs) h.1)
-
-ends-well : (bytes : List ℕ) → every is_trailing bytes ≡ false → EndsWell (trim is_trailing bytes)
-ends-well [] h = absurd (true≢false h)
-ends-well (b ∷ bytes) h = subst EndsWell (sym (trim-kept is_trailing b bytes h)) (by_rest (every is_trailing bytes) refl h (ends-well bytes))
-  where
-    by_rest : (t : Bool) → every is_trailing bytes ≡ t → (is_trailing b && t) ≡ false → (every is_trailing bytes ≡ false → EndsWell (trim is_trailing bytes)) → EndsWell (b ∷ trim is_trailing bytes)
-    by_rest true stated h later = subst (λ bs. EndsWell (b ∷ bs)) (sym (trim-all is_trailing bytes stated)) (ends-alone b (neither (is_blank b) (is_return b) h))
-    by_rest false stated h later = ends-front b (trim is_trailing bytes) (later stated)
+return-trailing : (b : ℕ) → is_return b ≡ true → is_trailing b ≡ true
+return-trailing b is = or_right (is_blank b) (is_return b) is
 
 pub body-again : (front bytes : List ℕ) (n : Instr) → Spells bytes n → body (front ++ trim is_trailing bytes) ≡ front ++ trim is_trailing bytes
 body-again front bytes n spells =
-    let well = ends-well bytes (not-all bytes (filled-again bytes n spells)) in
-    trim-behind is_return front (trim is_trailing bytes) well.0 well.1
+    trim-behind is_return front (trim is_trailing bytes) (every-trim is_return is_trailing return-trailing bytes (not-all bytes (filled-again bytes n spells)))
+    ∙ ap (λ bs. front ++ bs) (trim-within is_return is_trailing return-trailing bytes)
 
 -- A CLASS from its parts
 
@@ -353,29 +328,9 @@ inside-label (b ∷ bytes) h =
     elim (b == 32) as (λ t. every is_inside (if t then 32 ∷ word bytes else word (b ∷ bytes)) ≡ true)
     [ true ↦ every-word is_inside bytes (and_parts (is_inside b) (every is_inside bytes) h).1 | false ↦ every-word is_inside (b ∷ bytes) h ]
 
-no-run : (pad known : Bool) (n : Option Instr) → begins_run (if pad then Pad false else (if known then class_of_operand false n else Other)) ≡ false
-no-run true known n = refl
-no-run false false n = refl
-no-run false true None = refl
-no-run false true (Some n) = refl
-
-located-of : (located : Bool) (bytes : List ℕ) → begins_run (by_operation located bytes) ≡ true → located ≡ true
-located-of true bytes h = refl
-located-of false bytes h = absurd (true≢false (sym h ∙ no-run (is_pad (operation_in bytes)) (is_some (operation_of (operation_in bytes))) (whole_instr bytes)))
-
-code-parts : (comment comma after : Bool) (c : Class) → begins_run (if comment then Comment else (if comma then (if after then Refused else Other) else c)) ≡ true → (comment ≡ false) × (comma ≡ false) × (begins_run c ≡ true)
-code-parts true comma after c h = absurd (true≢false (sym h))
-code-parts false true true c h = absurd (true≢false (sym h))
-code-parts false true false c h = absurd (true≢false (sym h))
-code-parts false false after c h = (refl, refl, h)
-
 filled-from : (bytes : List ℕ) → nat_lt 0 (length bytes) ≡ true → is_filled bytes ≡ true
 filled-from [] h = absurd (true≢false (sym h))
 filled-from (b ∷ bytes) h = refl
-
-no-star : (star other : Bool) → (star || other) ≡ false → star ≡ false
-no-star true other h = absurd (true≢false h)
-no-star false other h = refl
 
 label-of_body : (line : List ℕ) → is_comment line ≡ false → continues line ≡ false → is_located line ≡ true → (is_label (label_bytes line) ≡ true) × (is_filled (label_bytes line) ≡ true)
 label-of_body [] code first here = absurd (true≢false code)
@@ -386,7 +341,7 @@ label-of_body (b ∷ bytes) code first here = by_column (b == 32) (is_blank b) r
     by_column true blank stated known here = (and_from (is_filled (word bytes)) (every is_no_blank (word bytes)) (filled-from (word bytes) here) (no_blank-word bytes), refl)
     by_column false true stated known here = absurd (true≢false (sym (filled-from (word (b ∷ bytes)) here) ∙ ap (λ t. is_filled (if t then [] else b ∷ word bytes)) known))
     by_column false false stated known here =
-        let star : (b == 42) ≡ false = no-star (b == 42) (blanks (b ∷ bytes) == length (b ∷ bytes) || nat_le 29 (blanks (b ∷ bytes))) code in
+        let star : (b == 42) ≡ false = (or_parts (b == 42) (blanks (b ∷ bytes) == length (b ∷ bytes) || nat_le 29 (blanks (b ∷ bytes))) code).0 in
         let words : every is_no_blank (b ∷ word bytes) ≡ true = and_from (is_no_blank b) (every is_no_blank (word bytes)) (ap not known) (no_blank-word bytes) in (
           ap (λ t. if t then is_filled (word bytes) && every is_no_blank (word bytes) else (every is_no_blank (b ∷ word bytes) && not (b == 42) && not (b == 44))) stated
               ∙ and_from (every is_no_blank (b ∷ word bytes) && not (b == 42)) (not (b == 44)) (and_from (every is_no_blank (b ∷ word bytes)) (not (b == 42)) words (ap not star)) (ap not first),
@@ -396,37 +351,9 @@ label-of_body (b ∷ bytes) code first here = by_column (b == 32) (is_blank b) r
 -- what is in front of code is a label
 pub label-of_code : (after : Bool) (line : List ℕ) → begins_run (class_of after line) ≡ true → every is_inside line ≡ true → IsLabel (label_bytes (body line)) × (is_filled (label_bytes (body line)) ≡ true)
 label-of_code after line begins inside =
-    let line_body : List ℕ = body line in
-    let parts = code-parts (is_comment line_body) (continues line_body) after (by_operation (is_located line_body) (from_operation line_body)) begins in
-    let label = label-of_body line_body parts.0 parts.1 (located-of (is_located line_body) (from_operation line_body) parts.2) in
-    ((label.0, inside-label line_body (every-trimmed is_inside is_return line inside)), label.1)
-
--- WHAT AN INSTRUCTION LINE SPELLS
-
-spelled-parts : (pad known : Bool) (o : Option Instr) (located here : Bool) (n : Instr) → (if pad then Pad here else (if known then class_of_operand here o else Other)) ≡ Instruction located n → o ≡ Some n
-spelled-parts true known o located here n h = cc
-spelled-parts false false o located here n h = cc
-spelled-parts false true None located here n h = cc
-spelled-parts false true (Some m) located here n h = cc
-
-class-parts : (comment comma after : Bool) (c : Class) (located : Bool) (n : Instr) → (if comment then Comment else (if comma then (if after then Refused else Other) else c)) ≡ Instruction located n → c ≡ Instruction located n
-class-parts true comma after c located n h = cc
-class-parts false true true c located n h = cc
-class-parts false true false c located n h = cc
-class-parts false false after c located n h = h
-
-whole-spelled : (runs : Bool) (o : Option Instr) (n : Instr) → (if runs then None else o) ≡ Some n → (o ≡ Some n) × (runs ≡ false)
-whole-spelled true o n h = cc
-whole-spelled false o n h = (h, refl)
-
--- and is not cut where its operand goes on
-pub whole-of_class : (after : Bool) (line : List ℕ) (located : Bool) (n : Instr) → class_of after line ≡ Instruction located n → SpellsAll (from_operation (body line)) n
-whole-of_class after line located n h =
-    let line_body : List ℕ = body line in
-    let bytes : List ℕ = from_operation line_body in
-    whole-spelled (runs_on bytes) (instr_of (operation_in bytes) (operand_in bytes)) n
-    (spelled-parts (is_pad (operation_in bytes)) (is_some (operation_of (operation_in bytes))) (whole_instr bytes) located (is_located line_body) n
-    (class-parts (is_comment line_body) (continues line_body) after (by_operation (is_located line_body) bytes) located n h))
+    let (code, located) = (class-tells after line).begins begins in
+    let label = label-of_body (body line) code.comment code.comma located in
+    ((label.0, inside-label (body line) (every-trimmed is_inside is_return line inside)), label.1)
 
 -- NO NEWLINE in what is printed
 

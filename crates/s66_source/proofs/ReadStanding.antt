@@ -1,17 +1,14 @@
 -- What stands before a line that is read again, and whether the line is left alone again.
-use Rattle.std.proofs.Common.{◌≡◌, ◌==◌, ◌-◌, ◌&&◌, ◌||◌, not, ℕ, Bool, true, false, if◌then◌else◌, true≢false, List, [], ◌∷◌, ◌++◌, codes, nat_le, nat_lt, refl, sym, ap, ap₂, ◌∙◌, subst, arith, append_assoc, drop}
+use Rattle.std.proofs.Common.{◌≡◌, ◌==◌, ◌-◌, ◌&&◌, ◌||◌, not, ℕ, Bool, true, false, if◌then◌else◌, true≢false, List, [], ◌∷◌, ◌++◌, codes, nat_le, nat_lt, refl, sym, ap, ap₂, ◌∙◌, arith, append_assoc, drop}
 use Rattle.s66_source.proofs.Directives.{no-star}
 use Rattle.std.specs.Prelude.{bytes_eq}
-use Rattle.std.proofs.lemmas.Bool.{eqb-true, leb-true, ne_eqb, and_parts, and_right, or_parts, or_from, or_right}
+use Rattle.std.proofs.lemmas.Bool.{eqb-true, leb-true, ne_eqb, and_parts, and_right, or_parts, or_from}
 use Rattle.s66_isa.specs.Lists.{every}
 use Rattle.s66_line.specs.Class.{class_of}
 use Rattle.s66_line.specs.Fields.{after_word, body, is_blank, is_comment, is_return, continues, operation, skip_blanks, upper, upper_byte, word, lines_of}
 use Rattle.s66_line.specs.declared.class.Class.{Class}
-use Rattle.s66_line.specs.declared.class.Class.TheVariants.{Refused}
-use Rattle.s66_line.proofs.LineFields.{indented_no}
 use Rattle.s66_source.specs.Counts.{counting_text, is_covering}
-use Rattle.s66_source.specs.LeftAlone.{Flagged, after_body, after_line, after_operation, class_at, has_operation, is_alone, is_continued, is_directive, is_held, is_switch, is_off_switch, is_on_switch, is_doubtful, off_after, with_operation, after_directive, directive_cover, with_directive}
-use Rattle.s66_source.specs.LeftAlone.{Standing}
+use Rattle.s66_source.specs.LeftAlone.{Flagged, after_body, after_line, after_operation, class_at, has_operation, is_alone, is_continued, is_directive, is_held, is_switch, is_off_switch, is_on_switch, is_doubtful, off_after, with_operation, after_directive, directive_cover, with_directive, Standing}
 use Rattle.s66_source.proofs.ReadBack.{trim-twice, class_of-body, lines_of-line}
 use Rattle.s66_source.proofs.Standings.{same-off}
 use Rattle.s66_line.proofs.Wholes.{is_inside}
@@ -106,31 +103,6 @@ continues-body (b ∷ line) = by_all (every is_return (b ∷ line)) refl
     by_all : (t : Bool) → every is_return (b ∷ line) ≡ t → continues (if t then [] else b ∷ body line) ≡ (b == 44)
     by_all true stated = sym (comma-kept b line (every is_return line) stated)
     by_all false stated = refl
-
--- a line that ends, and a text after it
-pub continues-line : (line text : List ℕ) → continues (line ++ 10 ∷ text) ≡ continues line
-continues-line [] text = refl
-continues-line (b ∷ line) text = refl
-
-comma-no_comment : (line : List ℕ) → continues line ≡ true → is_comment line ≡ false
-comma-no_comment [] h = absurd (true≢false (sym h))
-comma-no_comment (b ∷ line) h = subst (λ c. is_comment (c ∷ line) ≡ false) (sym (eqb-true b 44 h)) (indented_no 44 line refl)
-
-pub comment-quiet : (line : List ℕ) → is_comment line ≡ true → continues line ≡ false
-comment-quiet line h = by_comma (continues line) refl
-  where
-    by_comma : (t : Bool) → continues line ≡ t → t ≡ false
-    by_comma true stated = absurd (true≢false (sym h ∙ comma-no_comment line stated))
-    by_comma false stated = refl
-
-comma-refused : (line : List ℕ) → continues line ≡ true → class_of true line ≡ Refused
-comma-refused line h =
-    let comma : continues (body line) ≡ true = continues-body line ∙ h in
-    rw (comma-no_comment (body line) comma, comma) refl
-
--- with `--cut` such a line is left alone
-pub comma-alone : (s : Standing) (line : List ℕ) (continued : Bool) → continues line ≡ true → is_alone true s line continued ≡ true
-comma-alone s line continued h = or_right (is_held true s line continued) (is_doubtful s.redefined (class_of true line) (body line)) (ap (λ c. is_doubtful s.redefined c (body line)) (comma-refused line h))
 
 -- WHAT LEAVES THE STANDING AS IT IS
 

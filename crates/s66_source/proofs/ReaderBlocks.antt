@@ -1,5 +1,5 @@
 -- Reading line by line gives the blocks of the definition, or its least refused line.
-use Rattle.std.proofs.Common.{◌≡◌, ◌<◌, ◌%◌, ℕ, suc, Bool, true, false, List, [], ◌∷◌, ◌++◌, length, map, refl, sym, ap, ◌∙◌, arith, append_assoc, eqb, eq-eqb}
+use Rattle.std.proofs.Common.{◌≡◌, ◌<◌, ◌%◌, ℕ, suc, Bool, true, false, List, [], ◌∷◌, ◌++◌, length, map, refl, sym, ap, ◌∙◌, arith, append_assoc, eqb, eq-eqb, subst, ap₂}
 use Rattle.std.specs.Prelude.{Option, None, Result, Ok, Err, Some, if◌then◌else◌, nat_lt, nat_le}
 use Rattle.std.proofs.lemmas.List.{append-nil}
 use Rattle.std.proofs.lemmas.Nat.{mod_below}
@@ -35,11 +35,43 @@ Begins [] = Unit {0}
 Begins ([] ∷ parts) = ⊥
 Begins ((l ∷ more) ∷ parts) = begins_block l ≡ true
 
+-- THE PARTS of the lines to come: what is left of the part that is begun, and the parts after it
+
+abbrev pub left : List (List Line) → List Line
+left [] = []
+left ([] ∷ parts) = []
+left ((l ∷ more) ∷ parts) = if begins_block l then [] else l ∷ more
+
+abbrev pub behind : List (List Line) → List (List Line)
+behind [] = []
+behind ([] ∷ parts) = parts
+behind ((l ∷ more) ∷ parts) = if begins_block l then (l ∷ more) ∷ parts else parts
+
+pub put-before : (l : Line) (parts : List (List Line)) → put_before l parts ≡ (l ∷ left parts) ∷ behind parts
+put-before l [] = refl
+put-before l ([] ∷ parts) = refl
+put-before l ((next ∷ more) ∷ parts) =
+    elim (begins_block next) as (λ t. (if t then (l ∷ []) ∷ (next ∷ more) ∷ parts else (l ∷ next ∷ more) ∷ parts) ≡ (l ∷ (if t then [] else next ∷ more)) ∷ (if t then (next ∷ more) ∷ parts else parts))
+    [ true ↦ refl | false ↦ refl ]
+
+pub left-put : (l : Line) (parts : List (List Line)) → left (put_before l parts) ≡ (if begins_block l then [] else l ∷ left parts)
+left-put l parts = ap left (put-before l parts)
+
+pub behind-put : (l : Line) (parts : List (List Line)) → behind (put_before l parts) ≡ (if begins_block l then (l ∷ left parts) ∷ behind parts else behind parts)
+behind-put l parts = ap behind (put-before l parts)
+
+pub left-begins : (parts : List (List Line)) → Begins parts → left parts ≡ []
+left-begins [] h = refl
+left-begins ([] ∷ parts) h = refl
+left-begins ((l ∷ more) ∷ parts) h = rw h refl
+
+pub behind-begins : (parts : List (List Line)) → Begins parts → behind parts ≡ parts
+behind-begins [] h = refl
+behind-begins ([] ∷ parts) h = absurd h
+behind-begins ((l ∷ more) ∷ parts) h = rw h refl
+
 Begins-put : (l : Line) (parts : List (List Line)) → begins_block l ≡ true → Begins (put_before l parts)
-Begins-put l [] h = h
-Begins-put l ([] ∷ parts) h = h
-Begins-put l ((next ∷ more) ∷ parts) h =
-    elim (begins_block next) as (λ t. Begins (if t then (l ∷ []) ∷ (next ∷ more) ∷ parts else (l ∷ next ∷ more) ∷ parts)) [ true ↦ h | false ↦ h ]
+Begins-put l parts h = subst Begins (sym (put-before l parts)) h
 
 abbrev pub Fresh : List Flagged → Type 0
 Fresh lines = (number run index : ℕ) (run_label : List ℕ) (after : Bool) → index % BLOCK_LIMIT ≡ 0 → Begins (parts_of (instructions (classes_from number run index run_label after lines)))
@@ -67,21 +99,17 @@ fresh (line ∷ lines) number run index run_label after h = fresh-class (class_a
 abbrev pub labelled : List ℕ → List Entry → Block
 labelled label entries = record { label = label; entries = entries }
 
--- the open block goes on with the first part, or ends before it
+-- the open block goes on with what is left of its part
 abbrev attach : List ℕ → List Entry → List (List Line) → List Block
-attach label entries [] = labelled label entries ∷ []
-attach label entries ([] ∷ parts) = labelled label entries ∷ map block_of parts
-attach label entries ((l ∷ more) ∷ parts) =
-    if begins_block l then labelled label entries ∷ map block_of ((l ∷ more) ∷ parts) else labelled label (entries ++ map entry_of (l ∷ more)) ∷ map block_of parts
+attach label entries parts = labelled label (entries ++ map entry_of (left parts)) ∷ map block_of (behind parts)
 
 abbrev resumed : List ℕ → List Entry → List (List Line) → List Block
 resumed label [] parts = map block_of parts
 resumed label (e ∷ es) parts = attach label (e ∷ es) parts
 
 attach-begins : (label : List ℕ) (entries : List Entry) (parts : List (List Line)) → Begins parts → attach label entries parts ≡ labelled label entries ∷ map block_of parts
-attach-begins label entries [] h = refl
-attach-begins label entries ([] ∷ parts) h = absurd h
-attach-begins label entries ((l ∷ more) ∷ parts) h = rw h refl
+attach-begins label entries parts h =
+    ap₂ (λ lines later. labelled label (entries ++ map entry_of lines) ∷ map block_of later) (left-begins parts h) (behind-begins parts h) ∙ ap (λ es. labelled label es ∷ map block_of parts) (append-nil entries)
 
 -- ending the open block, and then the parts; the label of a run to come is its line's
 end_block-resumed : (blocks : List Block) (label later : List ℕ) (entries : List Entry) (parts : List (List Line)) → Begins parts →
@@ -91,22 +119,13 @@ end_block-resumed blocks label later (e ∷ es) parts h = rw (attach-begins labe
 
 attach-put : (label : List ℕ) (entries : List Entry) (l : Line) (parts : List (List Line)) → begins_block l ≡ false →
     attach label entries (put_before l parts) ≡ attach label (entries ++ entry_of l ∷ []) parts
-attach-put label entries l [] h = rw h refl
-attach-put label entries l ([] ∷ parts) h = rw h refl
-attach-put label entries l ((next ∷ more) ∷ parts) h =
-    elim (begins_block next) as (λ t. attach label entries (if t then (l ∷ []) ∷ (next ∷ more) ∷ parts else (l ∷ next ∷ more) ∷ parts)
-    ≡ (if t then labelled label (entries ++ entry_of l ∷ []) ∷ map block_of ((next ∷ more) ∷ parts)
-    else labelled label ((entries ++ entry_of l ∷ []) ++ map entry_of (next ∷ more)) ∷ map block_of parts))
-    [ true ↦ rw h refl | false ↦ rw (h, append_assoc entries (entry_of l ∷ []) (map entry_of (next ∷ more))) refl ]
+attach-put label entries l parts h =
+    ap₂ (λ lines later. labelled label (entries ++ map entry_of lines) ∷ map block_of later)
+    (left-put l parts ∙ ap (λ t. if t then [] else l ∷ left parts) h) (behind-put l parts ∙ ap (λ t. if t then (l ∷ left parts) ∷ behind parts else behind parts) h)
+    ∙ ap (λ es. labelled label es ∷ map block_of (behind parts)) (sym (append_assoc entries (entry_of l ∷ []) (map entry_of (left parts))))
 
 blocks-put : (l : Line) (parts : List (List Line)) → map block_of (put_before l parts) ≡ attach (label_in (l ∷ [])) (entry_of l ∷ []) parts
-blocks-put l [] = refl
-blocks-put l ([] ∷ parts) = refl
-blocks-put l ((next ∷ more) ∷ parts) =
-    elim (begins_block next) as (λ t. map block_of (if t then (l ∷ []) ∷ (next ∷ more) ∷ parts else (l ∷ next ∷ more) ∷ parts)
-    ≡ (if t then labelled (label_in (l ∷ [])) (entry_of l ∷ []) ∷ map block_of ((next ∷ more) ∷ parts)
-    else labelled (label_in (l ∷ [])) (entry_of l ∷ map entry_of (next ∷ more)) ∷ map block_of parts))
-    [ true ↦ refl | false ↦ refl ]
+blocks-put l parts = ap (map block_of) (put-before l parts)
 
 -- the label that is left for the open block: the run's, if no instruction of the run comes before the block's
 abbrev left_label : List ℕ → ℕ → ℕ → List ℕ
@@ -253,7 +272,7 @@ then-then (Err e) f g = refl
 
 last-open : (blocks : List Block) (label : List ℕ) (entries : List Entry) → with_open blocks label entries ≡ blocks ++ resumed label entries []
 last-open blocks label [] = sym (append-nil blocks)
-last-open blocks label (e ∷ es) = refl
+last-open blocks label (e ∷ es) = ap (λ entries. blocks ++ labelled label entries ∷ []) (sym (append-nil (e ∷ es)))
 
 too-many : (count : ℕ) → nat_lt SOURCE_LINES_LIMIT (suc count) ≡ nat_le SOURCE_LINES_LIMIT count
 too-many count = leb-suc-suc SOURCE_LINES_LIMIT count

@@ -25,7 +25,7 @@ redefined-upper known bytes = redefined-by known (upper bytes) bytes (same-opera
 same-own : (line : List ℕ) → own_operation (upper line) ≡ own_operation line
 same-own line = rw (same-comment line, same-continues line, same-operation line) refl
 
-same-word : (line : List ℕ) → upper (word (upper line)) ≡ upper (word line)
+pub same-word : (line : List ℕ) → upper (word (upper line)) ≡ upper (word line)
 same-word line = ap upper (upper-word line) ∙ upper-twice (word line)
 
 same-location_in : (line : List ℕ) → upper (location (upper line)) ≡ upper (location line)

@@ -1,13 +1,13 @@
 -- A printed source redefines what its source does.
-use Rattle.std.proofs.Common.{◌≡◌, ◌≤◌, ◌&&◌, ◌||◌, ◌++◌, ◌-◌, ℕ, suc, Bool, true, false, true≢false, if◌then◌else◌, Option, None, Some, List, [], ◌∷◌, codes, get_or, length, map, nat_lt, is_some, refl, sym, ap, ap₂, subst, ◌∙◌, inl, inr, arith, append_assoc}
+use Rattle.std.proofs.Common.{◌≡◌, ◌≤◌, ◌||◌, ◌++◌, ◌-◌, ℕ, suc, Bool, true, false, true≢false, if◌then◌else◌, Option, None, Some, List, [], ◌∷◌, codes, get_or, length, map, is_some, refl, sym, ap, ap₂, subst, ◌∙◌, inl, inr, arith, append_assoc}
 use Rattle.std.specs.List.{filter}
 use Rattle.std.proofs.lemmas.Bool.{and_parts}
 use Rattle.std.proofs.lemmas.List.{append-nil}
 use Rattle.s66_isa.specs.Lists.{Among, every}
 use Rattle.s66_isa.specs.Table.{instr_at}
 use Rattle.s66_isa.specs.declared.instr.Instr.{Instr}
-use Rattle.s66_line.specs.Block.{Block, bytes_of, instrs_of, line_of}
-use Rattle.s66_line.specs.Class.{class_of, class_of_operand, is_code, is_located, is_pad, whole_instr}
+use Rattle.s66_line.specs.Block.{Block, bytes_of, instrs_of}
+use Rattle.s66_line.specs.Class.{class_of, class_of_operand, is_code, is_located, is_pad, whole_instr, ends_run}
 use Rattle.s66_line.specs.Fields.{body, continues, from_operation, is_comment, is_return, is_trailing, lines_of, trim}
 use Rattle.s66_line.specs.InstructionText.{operation_in}
 use Rattle.s66_line.specs.Operand.{operation_of}
@@ -21,7 +21,7 @@ use Rattle.s66_source.specs.LeftAlone.{Flagged, Reading, at_first, class_at, fla
 use Rattle.s66_source.specs.Printed.{Placed, copied_line, notes_text, report}
 use Rattle.s66_source.specs.Redefined.{Redefined, defined_by, forming, own_operation, redefined_in, renaming, is_short}
 use Rattle.s66_source.specs.Replaced.{AreGiven, anew_text, begins, line_text, owner, printed_in, replaced, text_for, texts_of}
-use Rattle.s66_source.specs.Roles.{is_comment_class, is_note_of, is_other_class}
+use Rattle.s66_source.specs.Roles.{is_comment_class, is_note_of}
 use Rattle.s66_source.specs.Source.{Line, blocks_of, classed_lines, classes_from, label_after, place_after, run_after}
 use Rattle.s66_source.proofs.DefinedNames.{AreLong, defined_by-append, forming-long, nothing-more, renaming-long}
 use Rattle.s66_source.proofs.FlaggedLines.{bytes-flagged}
@@ -30,9 +30,10 @@ use Rattle.s66_source.proofs.LineTexts.{other-text, text_at}
 use Rattle.s66_source.proofs.PrintedLines.{bytes-classed}
 use Rattle.s66_source.proofs.ReadBack.{lines_of-line, trim-twice}
 use Rattle.s66_source.proofs.ReadBlock.{IsPrintable, IsSoundBlock, printable-at}
-use Rattle.s66_source.proofs.ReadComments.{ArePlainComments, Comments, comments-report, with_newlines}
+use Rattle.s66_source.proofs.ReadComments.{ArePlainComments, Comments, comments-report, with_newlines, note-comment}
 use Rattle.s66_source.proofs.ReadLine.{IsLabel, every-trimmed, inside-start}
 use Rattle.s66_source.proofs.SoundBlocks.{AllTexts, AreWithin, all-texts, sound-source}
+use Rattle.s66_source.proofs.Classes.{code-operation, code-pad, may_be_code}
 
 -- WHAT A TEXT OF WHOLE LINES DEFINES by these operations, whatever follows it
 
@@ -63,21 +64,15 @@ silent-line names line inside none = subst (Defines names (line ++ codes "\n")) 
 
 -- OPERATIONS of lines that aren't Other are short
 
-pad-short : (word : List ℕ) → is_pad word ≡ true → length word ≤ 3
-pad-short [] h = omega arith
-pad-short (a ∷ []) h = omega arith
-pad-short (a ∷ b ∷ []) h = omega arith
-pad-short (a ∷ b ∷ c ∷ more) h = absurd (true≢false (sym h))
-
-known-short : (word : List ℕ) → is_some (operation_of word) ≡ true → length word ≤ 3
-known-short [] h = omega arith
-known-short (a ∷ []) h = omega arith
-known-short (a ∷ b ∷ []) h = omega arith
-known-short (a ∷ b ∷ c ∷ []) h = omega arith
-known-short (a ∷ b ∷ c ∷ d ∷ more) h = absurd (true≢false (sym h))
+code-short : (word : List ℕ) → may_be_code word ≡ true → length word ≤ 3
+code-short [] h = omega arith
+code-short (a ∷ []) h = omega arith
+code-short (a ∷ b ∷ []) h = omega arith
+code-short (a ∷ b ∷ c ∷ []) h = omega arith
+code-short (a ∷ b ∷ c ∷ d ∷ more) h = absurd (true≢false (sym h))
 
 short-by : (comment comma after pad known located : Bool) (n : Option Instr) (word : List ℕ) → (pad ≡ true → length word ≤ 3) → (known ≡ true → length word ≤ 3) →
-    is_other_class (if comment then Comment else (if comma then (if after then Refused else Other) else (if pad then Pad located else (if known then class_of_operand located n else Other)))) ≡ false →
+    ends_run (if comment then Comment else (if comma then (if after then Refused else Other) else (if pad then Pad located else (if known then class_of_operand located n else Other)))) ≡ false →
     length (if comment || comma then [] else word) ≤ 3
 short-by true comma after pad known located n word by_pad by_known h = omega arith
 short-by false true after pad known located n word by_pad by_known h = omega arith
@@ -85,12 +80,12 @@ short-by false false after true known located n word by_pad by_known h = by_pad 
 short-by false false after false true located n word by_pad by_known h = by_known refl
 short-by false false after false false located n word by_pad by_known h = absurd (true≢false h)
 
-class-short : (after : Bool) (line : List ℕ) → is_other_class (class_of after line) ≡ false → length (own_operation (body line)) ≤ 3
+class-short : (after : Bool) (line : List ℕ) → ends_run (class_of after line) ≡ false → length (own_operation (body line)) ≤ 3
 class-short after line h =
     let there : List ℕ = body line in
     let bytes : List ℕ = from_operation there in
     short-by (is_comment there) (continues there) after (is_pad (operation_in bytes)) (is_some (operation_of (operation_in bytes))) (is_located there) (whole_instr bytes) (operation_in bytes)
-    (pad-short (operation_in bytes)) (known-short (operation_in bytes)) h
+    (λ pad. code-short (operation_in bytes) (code-pad (operation_in bytes) pad)) (λ known. code-short (operation_in bytes) (code-operation (operation_in bytes) known)) h
 
 comment-short : (line : List ℕ) → is_comment line ≡ true → length (own_operation line) ≤ 3
 comment-short line h = rw h (omega arith)
@@ -117,12 +112,12 @@ classed (m ∷ lines) number run index label after inside =
     )
 
 -- unless a line is Other, it defines nothing
-quiet-class : (names : List (List ℕ)) (after alone : Bool) (line : List ℕ) → AreLong names → is_other_class (class_at after (record { alone = alone; bytes = line })) ≡ false → is_one_of names (own_operation (body line)) ≡ false
+quiet-class : (names : List (List ℕ)) (after alone : Bool) (line : List ℕ) → AreLong names → ends_run (class_at after (record { alone = alone; bytes = line })) ≡ false → is_one_of names (own_operation (body line)) ≡ false
 quiet-class names after true line long h = absurd (true≢false h)
 quiet-class names after false line long h = long (own_operation (body line)) (class-short after line h)
 
-quiet : (names : List (List ℕ)) (l : Line) → AreLong names → IsClassed l → is_other_class l.class ≡ false → is_one_of names (own_operation (body l.bytes)) ≡ false
-quiet names l long is h = quiet-class names is.after is.alone l.bytes long (sym (ap is_other_class is.class) ∙ h)
+quiet : (names : List (List ℕ)) (l : Line) → AreLong names → IsClassed l → ends_run l.class ≡ false → is_one_of names (own_operation (body l.bytes)) ≡ false
+quiet names l long is h = quiet-class names is.after is.alone l.bytes long (sym (ap ends_run is.class) ∙ h)
 
 inside-body : (l : Line) → IsClassed l → every is_inside (body l.bytes) ≡ true
 inside-body l is = every-trimmed is_inside is_return l.bytes is.inside
@@ -131,7 +126,7 @@ defines-copied : (names : List (List ℕ)) (l : Line) → IsClassed l → Define
 defines-copied names l is =
     subst (λ line. Defines names (copied_line l) (defined_by names (line ∷ []))) (trim-twice is_return l.bytes) (defines-line names (body l.bytes) (inside-body l is))
 
-silent-copied : (names : List (List ℕ)) (l : Line) → AreLong names → IsClassed l → is_other_class l.class ≡ false → IsSilent names (copied_line l)
+silent-copied : (names : List (List ℕ)) (l : Line) → AreLong names → IsClassed l → ends_run l.class ≡ false → IsSilent names (copied_line l)
 silent-copied names l long is h = subst (Defines names (copied_line l)) (nothing-more names (body l.bytes) (quiet names l long is h)) (defines-copied names l is)
 
 -- COMMENTS define nothing
@@ -145,17 +140,12 @@ silent-comments names cut text long comments = subst (IsSilent names) (sym comme
         defines-both names (line ++ codes "\n") (with_newlines lines) [] []
         (silent-line names line are.0.1 (long (own_operation (body line)) (comment-short (body line) are.0.2))) (by_line lines are.1)
 
-no-other : (c : Class) → is_comment_class c ≡ true → is_other_class c ≡ false
+no-other : (c : Class) → is_comment_class c ≡ true → ends_run c ≡ false
 no-other Comment h = refl
 no-other Other h = absurd (true≢false (sym h))
 no-other Refused h = refl
 no-other (Pad located) h = refl
 no-other (Instruction located i) h = refl
-
-note-comment : (l : Line) (block : Block) → is_note_of l block ≡ true → is_comment_class l.class ≡ true
-note-comment l block h =
-    (and_parts (is_comment_class l.class) (nat_lt (line_of block 1) l.number)
-    (and_parts (is_comment_class l.class && nat_lt (line_of block 1) l.number) (nat_lt l.number (line_of block (length block.entries))) h).0).0
 
 silent-notes : (names : List (List ℕ)) (block : Block) (lines : List Line) → AreLong names → AreClassed lines → IsSilent names (notes_text block lines)
 silent-notes names block [] long are = silent-nothing names
@@ -177,7 +167,7 @@ silent-instructions names cut known blanks block label (n ∷ ns) long is sound 
     let here = sound n (inl refl) in
     let stated = (read-start cut label (get_or blanks (n - 1) 0) bytes (instr_at (instrs_of block) n) is here.1 here.0.0).classed false in
     defines-both names (line ++ codes "\n") (indented_lines blanks block [] ns) [] []
-    (silent-line names line (inside-start label (get_or blanks (n - 1) 0) bytes is.1 here.0.1) (long (own_operation (body line)) (class-short false line (ap is_other_class stated))))
+    (silent-line names line (inside-start label (get_or blanks (n - 1) 0) bytes is.1 here.0.1) (long (own_operation (body line)) (class-short false line (ap ends_run stated))))
     (silent-instructions names cut known blanks block [] ns long (refl, refl) (λ m among. sound m (inr among)))
 
 -- BLOCKS define nothing
@@ -199,7 +189,7 @@ silent-block names cut quiet columns known all long are n block p is within =
 abbrev bodies_of : List Line → List (List ℕ)
 bodies_of lines = map body (map (λ (l : Line). l.bytes) lines)
 
-other-is : (c : Class) → is_other_class c ≡ true → c ≡ Other
+other-is : (c : Class) → ends_run c ≡ true → c ≡ Other
 other-is Other h = refl
 other-is Comment h = absurd (true≢false (sym h))
 other-is Refused h = absurd (true≢false (sym h))
@@ -209,7 +199,7 @@ other-is (Instruction located i) h = absurd (true≢false (sym h))
 module _ (names : List (List ℕ)) (all : List Line) (texts : List (Option (List ℕ))) (long : AreLong names) (silent : AllTexts (IsSilent names) texts) where
   -- what is printed for a line
   defines-text : (l : Line) → IsClassed l → Defines names (text_at all texts l) (defined_by names (body l.bytes ∷ []))
-  defines-text l is = by_other (is_other_class l.class) refl
+  defines-text l is = by_other (ends_run l.class) refl
     where
       kept : text_at all texts l ≡ copied_line l → Defines names (text_at all texts l) (defined_by names (body l.bytes ∷ []))
       kept same = subst (λ text. Defines names text (defined_by names (body l.bytes ∷ []))) (sym same) (defines-copied names l is)
@@ -218,13 +208,13 @@ module _ (names : List (List ℕ)) (all : List Line) (texts : List (Option (List
       by_first true text h = h
       by_first false text h = silent-nothing names
 
-      by_text : (text : Option (List ℕ)) → text_for texts (owner all l) ≡ text → is_other_class l.class ≡ false → Defines names (text_at all texts l) (defined_by names (body l.bytes ∷ []))
+      by_text : (text : Option (List ℕ)) → text_for texts (owner all l) ≡ text → ends_run l.class ≡ false → Defines names (text_at all texts l) (defined_by names (body l.bytes ∷ []))
       by_text None stated code = kept (ap (λ text. line_text (begins all l) text l) stated)
       by_text (Some text) stated code =
           subst (Defines names (text_at all texts l)) (sym (nothing-more names (body l.bytes) (quiet names l long is code)))
           (subst (IsSilent names) (sym (ap (λ text. line_text (begins all l) text l) stated)) (by_first (begins all l) text (silent (owner all l) text stated)))
 
-      by_other : (other : Bool) → is_other_class l.class ≡ other → Defines names (text_at all texts l) (defined_by names (body l.bytes ∷ []))
+      by_other : (other : Bool) → ends_run l.class ≡ other → Defines names (text_at all texts l) (defined_by names (body l.bytes ∷ []))
       by_other true stated = kept (other-text all texts l (other-is l.class stated))
       by_other false stated = by_text (text_for texts (owner all l)) refl stated
 

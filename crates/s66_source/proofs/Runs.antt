@@ -1,12 +1,13 @@
 -- Whether a run has an instruction among lines that come before and among those to come.
 use Rattle.std.proofs.Common.{◌≡◌, ◌≢◌, ◌≤◌, ◌<◌, ◌==◌, ◌&&◌, ◌||◌, ◌∙◌, ℕ, zero, suc, Bool, true, false, List, [], ◌∷◌, ◌++◌, refl, sym, ap, ap₂, arith, append_assoc, eqb, eq-eqb, if◌then◌else◌}
-use Rattle.std.proofs.Math.Bool.{and-false}
+use Rattle.std.proofs.Math.Bool.{and-false, or-false}
 use Rattle.std.proofs.lemmas.Bool.{eqb-false, ne_eqb, or_right}
 use Rattle.s66_isa.specs.Lists.{some_of}
 use Rattle.s66_line.specs.Class.{is_instruction}
 use Rattle.s66_source.specs.Roles.{has_block}
 use Rattle.s66_source.specs.Source.{Line, instructions}
 use Rattle.s66_source.proofs.PrintedLines.{Ordered, run_behind, run_behind-le}
+use Rattle.s66_source.proofs.LineTexts.{some-append}
 
 -- some instructions of a run came
 abbrev pub begun : ℕ → Bool
@@ -19,21 +20,14 @@ has_run run lines = some_of (λ (l : Line). l.run == run && is_instruction l.cla
 pub run-skip : (run : ℕ) (l : Line) (lines : List Line) → is_instruction l.class ≡ false → has_run run (l ∷ lines) ≡ has_run run lines
 run-skip run l lines stated = ap (λ t. (eqb l.run run && t) || has_run run lines) stated ∙ ap (λ t. t || has_run run lines) (and-false (eqb l.run run))
 
-run-here : (run : ℕ) (l : Line) (lines : List Line) → l.run ≡ run → is_instruction l.class ≡ true → has_run run (l ∷ lines) ≡ true
-run-here run l lines same stated = rw (eq-eqb l.run run same, stated) refl
+pub some-ahead : (run : ℕ) (l : Line) (lines : List Line) → l.run ≡ run → is_instruction l.class ≡ true → has_run run (l ∷ lines) ≡ true
+some-ahead run l lines same stated = rw (eq-eqb l.run run same, stated) refl
 
 run-other : (run : ℕ) (l : Line) (lines : List Line) → l.run ≢ run → has_run run (l ∷ lines) ≡ has_run run lines
 run-other run l lines other = rw (ne_eqb l.run run other) refl
 
 run-append : (run : ℕ) (before lines : List Line) → has_run run (before ++ lines) ≡ (has_run run before || has_run run lines)
-run-append run [] lines = refl
-run-append run (l ∷ before) lines =
-    elim (eqb l.run run && is_instruction l.class) as (λ t. (t || has_run run (before ++ lines)) ≡ ((t || has_run run before) || has_run run lines))
-    [ true ↦ refl | false ↦ run-append run before lines ]
-
-or-false : (b : Bool) → (b || false) ≡ b
-or-false true = refl
-or-false false = refl
+run-append run before lines = some-append (λ (l : Line). l.run == run && is_instruction l.class) before lines
 
 -- of no later run
 abbrev UpTo : ℕ → List Line → Type 0
@@ -84,7 +78,7 @@ within-new all before l lines run index within last stated =
 pub within-more : (all before : List Line) (l : Line) (lines : List Line) (run later index i : ℕ) → Within all before (l ∷ lines) run index → run ≤ later → l.run ≡ later → is_instruction l.class ≡ true → Within all (before ++ l ∷ []) lines later (suc i)
 within-more all before l lines run later index i within least same stated =
     within-next all before l lines run later index (suc i) within least (omega (arith, same))
-    (run-append later before (l ∷ []) ∙ ap (λ b. has_run later before || b) (run-here later l [] same stated) ∙ or_right (has_run later before) true refl)
+    (run-append later before (l ∷ []) ∙ ap (λ b. has_run later before || b) (some-ahead later l [] same stated) ∙ or_right (has_run later before) true refl)
 
 -- whether a NO of the run, or of a new one, is of a run with an instruction
 pub block-same : (all before : List Line) (l : Line) (lines : List Line) (run index : ℕ) → Within all before (l ∷ lines) run index → l.run ≡ run → is_instruction l.class ≡ false → has_block all l ≡ (begun index || has_run run lines)
@@ -101,9 +95,6 @@ none-ahead run number l lines ordered stated = run-skip run l lines stated ∙ n
 
 pub none-behind : (run number : ℕ) (l : Line) (lines : List Line) → Ordered number (suc run) lines → l.run ≡ suc run → has_run run (l ∷ lines) ≡ false
 none-behind run number l lines ordered same = run-other run l lines (λ here. omega (arith, here, same)) ∙ none-later run number (suc run) lines (omega arith) ordered
-
-pub some-ahead : (run : ℕ) (l : Line) (lines : List Line) → l.run ≡ run → is_instruction l.class ≡ true → has_run run (l ∷ lines) ≡ true
-some-ahead run l lines same stated = run-here run l lines same stated
 
 -- THE FIRST INSTRUCTION tells whether its run is the one that is open
 

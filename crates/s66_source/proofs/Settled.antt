@@ -1,14 +1,13 @@
 -- What the kept lines tell of a line of an accepted source: whether a block begins in it, or it stands beside the blocks, and of which it is.
-use Rattle.std.proofs.Common.{◌≡◌, ◌≤◌, ◌<◌, ◌+◌, ◌-◌, ◌==◌, ◌&&◌, ◌||◌, ◌∙◌, not, ℕ, zero, suc, Bool, true, false, true≢false, if◌then◌else◌, None, Some, List, [], ◌∷◌, ◌++◌, drop, get_or, map, nat_lt, length, refl, sym, ap, ap₂, subst, inl, inr, arith, slice_get}
+use Rattle.std.proofs.Common.{◌≡◌, ◌≤◌, ◌<◌, ◌+◌, ◌-◌, ◌==◌, ◌&&◌, ◌||◌, ◌∙◌, not, ℕ, zero, suc, Bool, true, false, if◌then◌else◌, None, Some, List, [], ◌∷◌, ◌++◌, drop, get_or, map, nat_lt, length, refl, sym, ap, ap₂, subst, inl, inr, arith, slice_get, drop-cons, add-one}
 use Rattle.std.specs.Prelude.{Ok}
-use Rattle.std.proofs.lemmas.Bool.{cases_lt, eq-eqb, eqb-false, le-ltb, lt-ltb, ltb-false, ne_eqb}
+use Rattle.std.proofs.lemmas.Bool.{cases_lt, eq-eqb, eqb-false, le-ltb, lt-ltb, ne_eqb, or_parts}
 use Rattle.s66_isa.specs.Lists.{Among, some_of, tally}
 use Rattle.s66_line.specs.Block.{Block, line_of}
 use Rattle.s66_line.specs.Class.{is_instruction}
 use Rattle.s66_line.specs.Fields.{body, label_bytes}
 use Rattle.s66_line.specs.declared.class.Class.{Class}
 use Rattle.s66_line.specs.declared.class.Class.TheVariants.{Comment, Other, Refused, Pad, Instruction}
-use Rattle.s66_line.specs.declared.limits.TheConstants.{LINE_BYTES_LIMIT}
 use Rattle.s66_source.specs.Frame.{is_beside}
 use Rattle.s66_source.specs.declared.kept.LineKind.TheVariants as kind
 use Rattle.s66_source.specs.BlockParts.{all_of}
@@ -18,16 +17,16 @@ use Rattle.s66_source.specs.LeftAlone.{Flagged, Reading, class_at, flagged_lines
 use Rattle.s66_source.specs.Replaced.{owner}
 use Rattle.s66_source.specs.Replaced as printed
 use Rattle.s66_source.specs.Roles.{has_block, is_comment_class, is_dropped, is_leading, is_note, is_note_of}
-use Rattle.s66_source.specs.Source.{Line, begins_block, block_of, blocks_of, classed_lines, classes_from, entry_of, instructions, operand_refusal, parts_of, refusal, refusal_at, source_of}
-use Rattle.s66_source.specs.declared.error.SourceError.TheVariants.{LineTooLong, TooLarge}
+use Rattle.s66_source.specs.Source.{Line, begins_block, block_of, blocks_of, classed_lines, classes_from, entry_of, instructions, parts_of, refusal, source_of}
 use Rattle.s66_source.specs.declared.limits.TheConstants.{SOURCE_LINES_LIMIT}
-use Rattle.s66_source.proofs.LineLaw.{AreFilled, Rising, Rising-behind, last_number, line_of-last, neither, no_refusal, not-note, rising-classed, rising-instructions}
-use Rattle.s66_source.proofs.LineTexts.{AllFrom, AreTold, IsTold, all-from, behind, behind-begins, behind-put, count_after, first_of, left, no-note_in, parts_from, put-before, told-source}
+use Rattle.s66_source.proofs.LineLaw.{AreFilled, Rising, Rising-behind, last_number, line_of-last, neither, no_refusal, not-note, rising-classed, rising-instructions, no-note_in, taken-line}
+use Rattle.s66_source.proofs.LineTexts.{AllFrom, AreTold, IsTold, all-from, count_after, first_of, parts_from, told-source, owned_by}
 use Rattle.s66_source.proofs.PartsLaw.{parts}
-use Rattle.s66_source.proofs.PrintedLines.{Ordered, not-many, of-instructions, ordered-classed, run_behind}
+use Rattle.s66_source.proofs.PrintedLines.{Ordered, of-instructions, ordered-classed, run_behind}
 use Rattle.s66_source.proofs.ReadAgain.{none-refused, rest-taken}
-use Rattle.s66_source.proofs.ReaderBlocks.{fresh, from_class}
+use Rattle.s66_source.proofs.ReaderBlocks.{fresh, from_class, behind, behind-begins, behind-put, left, put-before}
 use Rattle.s66_source.proofs.Runs.{Within, begun, block-new, block-same, first_run, has_run, has_run-first, within-more, within-new, within-same}
+use Rattle.std.proofs.Math.Bool.{or-false}
 
 -- LISTS
 
@@ -46,13 +45,8 @@ get-some [] n x some = cc
 get-some (y ∷ xs) zero x some = (let same : y ≡ x = cc in ap (λ z. z ∷ xs) same)
 get-some (y ∷ xs) (suc n) x some = get-some xs n x some
 
-item-from : {X : Type 0} (xs : List X) (i : ℕ) (x : X) → i < length xs → x ≡ get_or xs i x → drop i xs ≡ x ∷ drop (suc i) xs
-item-from [] i x lt is = absurd (omega (arith, lt))
-item-from (y ∷ xs) zero x lt is = ap (λ z. z ∷ xs) (sym is)
-item-from (y ∷ xs) (suc i) x lt is = item-from xs i x (omega (arith, lt)) is
-
 pub item-next : {X : Type 0} (xs : List X) (i : ℕ) (x : X) → i < length xs → x ≡ get_or xs i x → drop i xs ≡ x ∷ drop (i + 1) xs
-item-next xs i x lt is = (let next : suc i ≡ i + 1 = omega arith in item-from xs i x lt is ∙ ap (λ k. x ∷ drop k xs) next)
+item-next xs i x lt is = rw (drop-cons xs i x, add-one) (ap (λ y. y ∷ drop (suc i) xs) (sym is))
 
 drop-none : {X : Type 0} (xs : List X) (n : ℕ) → drop n xs ≡ [] → slice_get xs n ≡ None
 drop-none [] n none = refl
@@ -135,14 +129,6 @@ run-next all rest number low run m whole inside least ordered is = has_run-first
 
 -- A COMMENT is a note of the block that began last, or of none
 
-or-false : (t : Bool) → (t || false) ≡ t
-or-false true = refl
-or-false false = refl
-
-either : (s t : Bool) → (s || t) ≡ false → (s ≡ false) × (t ≡ false)
-either true t none = absurd (true≢false none)
-either false t none = (refl, none)
-
 abbrev up_to : ℕ → List (List Line) → ℕ
 up_to n parts = tally (λ (block : Block). nat_lt (line_of block 1) (suc n)) (map block_of parts)
 
@@ -173,7 +159,7 @@ note-is l comment low ((a ∷ more) ∷ parts) filled rising other =
     rest = later-filled (a ∷ more) parts filled
 
     apart : ((a.number == l.number) ≡ false) × (some_of (λ (block : Block). line_of block 1 == l.number) (map block_of parts) ≡ false)
-    apart = either (a.number == l.number) (some_of (λ (block : Block). line_of block 1 == l.number) (map block_of parts)) other
+    apart = or_parts (a.number == l.number) (some_of (λ (block : Block). line_of block 1 == l.number) (map block_of parts)) other
 
     begins-later : l.number ≤ a.number → some_of (is_note_of l) (map block_of ((a ∷ more) ∷ parts)) ≡ nat_lt l.number (last_of (map block_of ((a ∷ more) ∷ parts)) (up_to l.number ((a ∷ more) ∷ parts)))
     begins-later le =
@@ -204,9 +190,6 @@ note-is l comment low ((a ∷ more) ∷ parts) filled rising other =
 
 -- OF WHICH BLOCK a line is, by its class
 
-abbrev owned_by : Bool → Bool → Bool → Bool → ℕ → ℕ
-owned_by instruction note dropped leading m = if instruction || note then m else (if dropped then (if leading then suc m else m) else 0)
-
 owner-of : (all : List Line) (l : Line) (note dropped : Bool) (m : ℕ) → is_note all l ≡ note → is_dropped all l ≡ dropped → printed.begun all l ≡ m → owner all l ≡ owned_by (is_instruction l.class) note dropped (is_leading all l) m
 owner-of all l note dropped m noted left told =
     ap₂ (λ s t. owned_by (is_instruction l.class) s t (is_leading all l) (printed.begun all l)) noted left ∙ ap (owned_by (is_instruction l.class) note dropped (is_leading all l)) told
@@ -232,15 +215,6 @@ module _ (all : List Line) (whole : Ordered 1 0 all) (filled : AreFilled (parts_
       Within all before (classes_from number run index label after lines) run index → drop m (blocks_of all) ≡ map block_of (behind (parts_from number run index label after lines)) → AreTold all m (classes_from number run index label after lines) → refusal (classes_from number run index label after lines) ≡ None →
       AreSettled all number m (classes_from number run index label after lines)
 
-  few-here : (number m : ℕ) (l : Line) (rest : List Line) → l.number ≡ number → refusal (l ∷ rest) ≡ None → number ≤ SOURCE_LINES_LIMIT
-  few-here number m l rest is taken =
-      ltb-false SOURCE_LINES_LIMIT number
-      (ap (nat_lt SOURCE_LINES_LIMIT) (sym is) ∙ not-many (nat_lt LINE_BYTES_LIMIT (length l.bytes)) (nat_lt SOURCE_LINES_LIMIT l.number) (LineTooLong l.number) TooLarge (operand_refusal l.number l.class) (neither (refusal_at l) (refusal rest) taken).0)
-
-  counted : (t : Bool) (m : ℕ) → count_after t m ≡ (if t then suc m else m)
-  counted true m = refl
-  counted false m = refl
-
   -- whether a comment is a note
   noted : (l : Line) (m : ℕ) → IsTold all l false m → is_comment_class l.class ≡ true → is_note all l ≡ nat_lt l.number (last_of (blocks_of all) m)
   noted l m told comment = note-is l comment 1 (parts_of (instructions all)) filled rising told.begins ∙ ap (λ k. nat_lt l.number (last_of (blocks_of all) k)) told.begun
@@ -251,7 +225,7 @@ module _ (all : List Line) (whole : Ordered 1 0 all) (filled : AreFilled (parts_
       let l : Line = record { number = number; bytes = line; class = Comment; run = run; index = index; label = label } in
       let rest : List Line = classes_from (suc number) run index label false lines in
       let next = line-next all m l rest (all-from lines (suc number) run index label false) is in (
-        record { number_is = refl; few = few-here number m l rest refl taken; begins_is = next.begins_is; told = told.0; owner_is = owner-of all l (is_note all l) false m refl refl told.0.begun ∙ ap (λ (t : Bool). if t then m else 0) (noted l m told.0 refl); beside = refl },
+        record { number_is = refl; few = (taken-line l (neither _ _ taken).0).few; begins_is = next.begins_is; told = told.0; owner_is = owner-of all l (is_note all l) false m refl refl told.0.begun ∙ ap (λ (t : Bool). if t then m else 0) (noted l m told.0 refl); beside = refl },
         settles (before ++ l ∷ []) (suc number) run index m label false (within-same all before l rest run index within refl refl) next.blocks told.1 (rest-taken l rest taken),
       )
   settled-class Refused line lines settles before number run index m label within is told taken =
@@ -260,14 +234,14 @@ module _ (all : List Line) (whole : Ordered 1 0 all) (filled : AreFilled (parts_
       let l : Line = record { number = number; bytes = line; class = Other; run = run; index = index; label = label } in
       let rest : List Line = classes_from (suc number) (suc run) 0 [] false lines in
       let next = line-next all m l rest (all-from lines (suc number) (suc run) 0 [] false) is in (
-        record { number_is = refl; few = few-here number m l rest refl taken; begins_is = next.begins_is; told = told.0; owner_is = owner-of all l false false m (no-note_in l (blocks_of all) refl) refl told.0.begun; beside = refl },
+        record { number_is = refl; few = (taken-line l (neither _ _ taken).0).few; begins_is = next.begins_is; told = told.0; owner_is = owner-of all l false false m (no-note_in l (blocks_of all) refl) refl told.0.begun; beside = refl },
         settles (before ++ l ∷ []) (suc number) (suc run) 0 m [] false (within-new all before l rest run index within (omega arith) refl) next.blocks told.1 (rest-taken l rest taken),
       )
   settled-class (Pad false) line lines settles before number run index m label within is told taken =
       let l : Line = record { number = number; bytes = line; class = Pad false; run = run; index = index; label = label } in
       let rest : List Line = classes_from (suc number) run index label true lines in
       let next = line-next all m l rest (all-from lines (suc number) run index label true) is in (
-        record { number_is = refl; few = few-here number m l rest refl taken; begins_is = next.begins_is; told = told.0; owner_is = owner-of all l false (has_block all l) m (no-note_in l (blocks_of all) refl) refl told.0.begun ∙ ap (λ (t : Bool). if t then (if index == 0 then suc m else m) else 0) (block-same all before l rest run index within refl refl ∙ by_index index within is); beside = ap not (block-same all before l rest run index within refl refl ∙ by_index index within is) },
+        record { number_is = refl; few = (taken-line l (neither _ _ taken).0).few; begins_is = next.begins_is; told = told.0; owner_is = owner-of all l false (has_block all l) m (no-note_in l (blocks_of all) refl) refl told.0.begun ∙ ap (λ (t : Bool). if t then (if index == 0 then suc m else m) else 0) (block-same all before l rest run index within refl refl ∙ by_index index within is); beside = ap not (block-same all before l rest run index within refl refl ∙ by_index index within is) },
         settles (before ++ l ∷ []) (suc number) run index m label true (within-same all before l rest run index within refl refl) next.blocks told.1 (rest-taken l rest taken),
       )
     where
@@ -291,7 +265,7 @@ module _ (all : List Line) (whole : Ordered 1 0 all) (filled : AreFilled (parts_
       (is ∙ ap (map block_of) (behind-begins (parts_from (suc number) (suc run) 0 new true lines) (fresh lines (suc number) (suc run) 0 new true refl))) in (
         record {
           number_is = refl;
-          few = few-here number m l rest refl taken;
+          few = (taken-line l (neither _ _ taken).0).few;
           begins_is = next.begins_is;
           told = told.0;
           owner_is = owner-of all l false (has_block all l) m (no-note_in l (blocks_of all) refl) refl told.0.begun ∙ ap (λ (t : Bool). if t then suc m else 0) has;
@@ -303,7 +277,7 @@ module _ (all : List Line) (whole : Ordered 1 0 all) (filled : AreFilled (parts_
       let l : Line = record { number = number; bytes = line; class = Instruction false i; run = run; index = index; label = label } in
       let rest : List Line = classes_from (suc number) run (suc index) label true lines in
       let next = line-next all m l rest (all-from lines (suc number) run (suc index) label true) is in (
-        record { number_is = refl; few = few-here number m l rest refl taken; begins_is = next.begins_is; told = told.0; owner_is = told.0.begun ∙ counted (first_of l) m; beside = refl },
+        record { number_is = refl; few = (taken-line l (neither _ _ taken).0).few; begins_is = next.begins_is; told = told.0; owner_is = told.0.begun; beside = refl },
         settles (before ++ l ∷ []) (suc number) run (suc index) (count_after (first_of l) m) label true (within-more all before l rest run run index index within (omega arith) refl refl) next.blocks told.1 (rest-taken l rest taken),
       )
   settled-class (Instruction true i) line lines settles before number run index m label within is told taken =
@@ -311,7 +285,7 @@ module _ (all : List Line) (whole : Ordered 1 0 all) (filled : AreFilled (parts_
       let l : Line = record { number = number; bytes = line; class = Instruction true i; run = suc run; index = 0; label = new } in
       let rest : List Line = classes_from (suc number) (suc run) 1 new true lines in
       let next = line-next all m l rest (all-from lines (suc number) (suc run) 1 new true) is in (
-        record { number_is = refl; few = few-here number m l rest refl taken; begins_is = next.begins_is; told = told.0; owner_is = told.0.begun ∙ counted (first_of l) m; beside = refl },
+        record { number_is = refl; few = (taken-line l (neither _ _ taken).0).few; begins_is = next.begins_is; told = told.0; owner_is = told.0.begun; beside = refl },
         settles (before ++ l ∷ []) (suc number) (suc run) 1 (count_after (first_of l) m) new true (within-more all before l rest run (suc run) index 0 within (omega arith) refl refl) next.blocks told.1 (rest-taken l rest taken),
       )
 

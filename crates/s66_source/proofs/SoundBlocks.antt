@@ -25,10 +25,11 @@ use Rattle.s66_source.proofs.FarOperands.{Fits, clear-read, fits-read}
 use Rattle.s66_source.proofs.PartsLaw.{parts}
 use Rattle.s66_source.proofs.PrintedLines.{accepted-is}
 use Rattle.s66_source.proofs.ReadBlock.{AreFitting, AreSound, IsSound, IsSoundBlock}
-use Rattle.s66_source.proofs.ReadLine.{IsLabel, every-from_operation, every-trimmed, label-of_code, whole-of_class}
+use Rattle.s66_source.proofs.ReadLine.{IsLabel, every-from_operation, every-trimmed, label-of_code}
 use Rattle.s66_source.proofs.ReadStanding.{flagged_at}
 use Rattle.s66_source.proofs.ReaderBlocks.{from_class}
 use Rattle.s66_source.proofs.Standings.{same-redefined}
+use Rattle.s66_source.proofs.Classes.{class-tells}
 
 -- LABELS
 
@@ -91,7 +92,7 @@ sound-line cut columns all s after continued located n l is stated inside own la
     let taken = taken-by (is_alone cut s l.bytes continued) (class_of after l.bytes) located n stated in
     record {
       entry = subst (λ c. IsSound cut s.redefined (record { instr = instr_in c; line = l.number; bytes = from_operation (body l.bytes) })) (sym is) (
-        whole-of_class after l.bytes located n taken.1,
+        (class-tells after l.bytes).spelled located n taken.1,
         every-from_operation is_inside (body l.bytes) (every-trimmed is_inside is_return l.bytes inside),
         clear-read cut (is_held cut s l.bytes continued) after s.redefined l.bytes located n taken.0 taken.1,
       );

@@ -13,12 +13,12 @@ use Rattle.s66_source.specs.Replaced.{AreGiven, printed_in, texts_of}
 use Rattle.s66_source.specs.Source.{Line, block_of, blocks_of, classed_lines, instructions, parts_of, refusal, source_of}
 use Rattle.s66_source.specs.declared.columns.Columns.{Columns}
 use Rattle.s66_source.proofs.LineLaw.{no_refusal}
-use Rattle.s66_source.proofs.LineTexts.{behind, behind-begins, left-begins, told-source}
+use Rattle.s66_source.proofs.LineTexts.{told-source}
 use Rattle.s66_source.proofs.PrintedLines.{accepted-is}
 use Rattle.s66_source.proofs.ReadAgain.{AreDue, EndsTexts, Follows, reads-all}
 use Rattle.s66_source.proofs.ReadBlock.{quiet-block}
 use Rattle.s66_source.proofs.ReadComments.{AreLinesOfSource, lines-of_source, read_at}
-use Rattle.s66_source.proofs.ReaderBlocks.{fresh, read_from-start}
+use Rattle.s66_source.proofs.ReaderBlocks.{fresh, read_from-start, behind, behind-begins, left-begins}
 use Rattle.s66_source.proofs.RedefinedLines.{redefined-printed}
 use Rattle.s66_source.proofs.SoundBlocks.{all-texts, sound-source}
 

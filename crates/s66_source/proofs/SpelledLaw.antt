@@ -1,28 +1,24 @@
 -- Each instruction of an accepted source is spelled by its text.
-use Rattle.std.proofs.Common.{◌≡◌, ◌≤◌, ◌<◌, ℕ, zero, suc, Bool, true, false, if◌then◌else◌, List, [], ◌∷◌, Option, None, Some, length, map, nat_lt, refl, sym, ap, ◌∙◌, subst, inl, inr, arith}
+use Rattle.std.proofs.Common.{◌≡◌, ◌≤◌, ◌<◌, ℕ, zero, suc, Bool, List, [], ◌∷◌, Some, length, map, refl, sym, ap, ◌∙◌, subst, inl, inr, arith}
 use Rattle.std.specs.Prelude.{Ok, slice_get}
-use Rattle.std.proofs.lemmas.Bool.{ltb-false}
 use Rattle.std.proofs.lemmas.List.{length-map}
-use Rattle.s66_isa.specs.Lists.{Among, every}
+use Rattle.s66_isa.specs.Lists.{Among}
 use Rattle.s66_isa.specs.Table.{instr_at}
 use Rattle.s66_isa.proofs.Lists.{among-front, among-rest}
-use Rattle.s66_line.specs.Fields.{is_return, trim, body}
+use Rattle.s66_line.specs.Fields.{is_return, body}
 use Rattle.s66_line.specs.InstructionText.{IsTextOf}
 use Rattle.s66_source.specs.LeftAlone.{Reading, redefined_by}
 use Rattle.s66_source.specs.Redefined.{Redefined}
 use Rattle.s66_source.specs.declared.columns.Columns.TheVariants.{Usual}
-use Rattle.s66_source.specs.Source.{Line, classed_lines, operand_refusal, refusal, instructions, parts_of, entry_of, block_of, blocks_of, source_of}
+use Rattle.s66_source.specs.Source.{Line, classed_lines, refusal, instructions, parts_of, entry_of, block_of, blocks_of, source_of}
 use Rattle.s66_line.specs.Block.{Entry, Block, instrs_of, text_of}
 use Rattle.s66_source.specs.BlockParts.{all_of}
 use Rattle.s66_isa.specs.declared.limits.TheConstants.{BLOCK_LIMIT}
 use Rattle.s66_line.specs.declared.limits.TheConstants.{LINE_BYTES_LIMIT, TEXT_LIMIT}
-use Rattle.s66_source.specs.declared.limits.TheConstants.{SOURCE_LINES_LIMIT}
-use Rattle.s66_source.specs.declared.error.SourceError.{SourceError}
-use Rattle.s66_source.specs.declared.error.SourceError.TheVariants.{LineTooLong, TooLarge}
 use Rattle.s66_line.proofs.BlockEntries.{instr_at-entry}
 use Rattle.s66_line.proofs.InstructionTexts.{text-of_bytes}
-use Rattle.s66_line.proofs.LineFields.{from_operation_within}
-use Rattle.s66_source.proofs.LineLaw.{no_refusal, none-at}
+use Rattle.s66_line.proofs.LineFields.{from_operation_within, trim-length}
+use Rattle.s66_source.proofs.LineLaw.{no_refusal, none-at, taken-line}
 use Rattle.s66_source.proofs.PartsLaw.{parts}
 use Rattle.s66_source.proofs.PrintedLines.{of-instructions, accepted-is}
 use Rattle.s66_source.proofs.ReadBlock.{IsSound, AreSound, bytes_of-entry}
@@ -52,21 +48,6 @@ sound-entry : (cut : Bool) (known : Redefined) (lines : List Line) (l : Line) �
 sound-entry cut known [] l sound among = absurd among
 sound-entry cut known (m ∷ lines) l sound (inl same) = subst (λ line. IsSound cut known (entry_of line)) (sym same) sound.0
 sound-entry cut known (m ∷ lines) l sound (inr among) = sound-entry cut known lines l sound.1 among
-
-not-long : (long many : Bool) (e f : SourceError) (o : Option SourceError) → (if long then Some e else (if many then Some f else o)) ≡ None → long ≡ false
-not-long true many e f o h = cc
-not-long false many e f o h = refl
-
-few-bytes : (lines : List Line) (l : Line) → refusal lines ≡ None → Among l lines → length l.bytes ≤ LINE_BYTES_LIMIT
-few-bytes lines l taken among =
-    ltb-false LINE_BYTES_LIMIT (length l.bytes)
-    (not-long (nat_lt LINE_BYTES_LIMIT (length l.bytes)) (nat_lt SOURCE_LINES_LIMIT l.number) (LineTooLong l.number) TooLarge (operand_refusal l.number l.class) (none-at lines l taken among))
-
-trim-length : (test : ℕ → Bool) (bytes : List ℕ) → length (trim test bytes) ≤ length bytes
-trim-length test [] = omega arith
-trim-length test (b ∷ bytes) =
-    elim (every test (b ∷ bytes)) as (λ t. length (if t then [] else b ∷ trim test bytes) ≤ suc (length bytes))
-    [ true ↦ omega arith | false ↦ (let h = trim-length test bytes in omega (arith, h)) ]
 
 -- the operation begins after column 1
 few-entry : (l : Line) → length l.bytes ≤ LINE_BYTES_LIMIT → length (entry_of l).bytes ≤ TEXT_LIMIT
@@ -120,4 +101,4 @@ spelled source blocks block accepted among (suc n) first last =
     let in_source : Among there.0 (instructions lines) = subst (Among there.0) (parts source).whole in_parts in
     let sound = subst (λ (b : Block). AreSound source.cut (redefined_by source) b.entries) made.2 (sound-block Usual source blocks block accepted among).entries in
     spelled-by source.cut (redefined_by source) block n there.0 (ap (λ (b : Block). slice_get b.entries n) made.2 ∙ there.2) (sound-entry source.cut (redefined_by source) made.0 there.0 sound there.1)
-    (few-bytes lines there.0 (no_refusal (refusal lines) (blocks_of lines) blocks accepted) (of-instructions lines there.0 in_source).0)
+    (taken-line there.0 (none-at lines there.0 (no_refusal (refusal lines) (blocks_of lines) blocks accepted) (of-instructions lines there.0 in_source).0)).short

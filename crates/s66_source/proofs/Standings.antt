@@ -1,28 +1,24 @@
 -- What stands from one line to the next, and what leaves it as it is.
-use Rattle.std.proofs.Common.{◌≡◌, ◌==◌, ◌-◌, ◌&&◌, ◌||◌, inl, inr, not, ℕ, zero, suc, min, Bool, true, false, if◌then◌else◌, List, [], ◌∷◌, ◌≤◌, Option, None, Some, nat_lt, length, drop, get_or, take, codes, refl, sym, ap, ap₂, subst, ◌∙◌, arith}
-use Rattle.s66_line.specs.InstructionText.{operation_in}
-use Rattle.std.specs.Prelude.{◌⊎◌, bytes_eq, is_some}
+use Rattle.std.proofs.Common.{◌≡◌, ◌==◌, ◌-◌, ◌&&◌, ◌||◌, inl, inr, not, ℕ, zero, suc, min, Bool, true, false, if◌then◌else◌, List, [], ◌∷◌, ◌≤◌, nat_lt, length, drop, get_or, take, codes, refl, sym, ap, ap₂, subst, ◌∙◌, arith}
+use Rattle.std.specs.Prelude.{◌⊎◌, bytes_eq}
 use Rattle.std.specs.Char.{to_ascii_uppercase}
 use Rattle.std.specs.List.{prefix_len}
 use Rattle.std.proofs.lemmas.Slice.Eq.{bytes_eq-Decides}
 use Rattle.std.proofs.lemmas.Bool.{and_parts, eqb-true, ltb-false, or_cases, or_left, or_parts, or_from, false_from_ne_true, not_from_true, true≢false}
 use Rattle.std.proofs.lemmas.List.{length-take, take-take, take_all}
-use Rattle.s66_isa.specs.declared.instr.Instr.{Instr}
 use Rattle.s66_isa.specs.Lists.{every, some_of}
-use Rattle.s66_line.specs.Class.{class_of, class_of_operand, by_operation, is_code, is_located, is_pad, whole_instr}
-use Rattle.s66_line.specs.Fields.{after_word, body, continues, is_blank, is_comment, is_return, operand, operation, skip_blanks, trim, upper, upper_byte, word, from_operation}
+use Rattle.s66_line.specs.Class.{class_of, is_code}
+use Rattle.s66_line.specs.Fields.{after_word, body, continues, is_blank, is_comment, is_return, operand, operation, skip_blanks, trim, upper, upper_byte, word}
 use Rattle.s66_line.proofs.LineFields.{word-length, word-take}
 use Rattle.s66_line.proofs.UpperCase.{length-upper}
-use Rattle.s66_line.specs.Operand.{is_octal, operation_of}
-use Rattle.s66_line.specs.declared.class.Class.{Class}
-use Rattle.s66_line.specs.declared.class.Class.TheVariants.{Comment, Other, Refused, Pad}
+use Rattle.s66_line.specs.declared.class.Class.TheVariants.{Other}
 use Rattle.s66_source.specs.Counts.{count_down, counted_after_one, counted_after_two, counted_alone, counting_text, cover_of, covered_after, is_covering, is_one_of, nothing_covered, range_ends, repetitions_after, with_cover}
-use Rattle.s66_source.specs.LeftAlone.{after_directive, after_line, directive_cover, with_directive, after_operation, bodies_after, class_at, definitions, has_operation, is_alone, is_directive, is_held, is_switch, is_off_switch, is_on_switch, is_doubtful, with_operation}
+use Rattle.s66_source.specs.LeftAlone.{after_directive, after_line, directive_cover, with_directive, after_operation, bodies_after, class_at, definitions, has_operation, is_alone, is_directive, is_held, is_switch, is_off_switch, is_on_switch, is_doubtful, with_operation, Standing}
 use Rattle.s66_source.specs.Roles.{is_comment_class}
 use Rattle.s66_source.specs.declared.cover.Cover.{Cover}
 use Rattle.s66_source.specs.declared.cover.Cover.TheVariants.{Nothing}
 use Rattle.s66_source.specs.declared.cover.Covered.{Covered}
-use Rattle.s66_source.specs.LeftAlone.{Standing}
+use Rattle.s66_source.proofs.Classes.{class-tells, may_be_code}
 
 -- THE NAMES of operations that cover lines, or begin or end something
 
@@ -131,29 +127,6 @@ upper-same (b ∷ bytes) all =
 
 -- NAMES OF INSTRUCTIONS are none of them
 
--- two letters and an octal digit, or NO
-abbrev may_be_code : List ℕ → Bool
-may_be_code (n ∷ o ∷ []) = n == 78 && o == 79
-may_be_code (p ∷ q ∷ d ∷ []) = is_octal d
-may_be_code word = false
-
-octal : {X : Type 0} (t : Bool) (o : Option X) → is_some (if t then o else None) ≡ true → t ≡ true
-octal true o h = refl
-octal false o h = cc
-
-code-operation : (word : List ℕ) → is_some (operation_of word) ≡ true → may_be_code word ≡ true
-code-operation [] h = cc
-code-operation (p ∷ []) h = cc
-code-operation (p ∷ q ∷ []) h = cc
-code-operation (p ∷ q ∷ d ∷ []) h = octal (is_octal d) _ h
-code-operation (p ∷ q ∷ d ∷ e ∷ word) h = cc
-
-code-pad : (word : List ℕ) → is_pad word ≡ true → may_be_code word ≡ true
-code-pad [] h = cc
-code-pad (p ∷ []) h = cc
-code-pad (p ∷ q ∷ []) h = h
-code-pad (p ∷ q ∷ d ∷ word) h = cc
-
 -- HOW MANY DEFINITIONS are open grows by one at most
 
 one-more : (n : ℕ) (name : List ℕ) → bodies_after n name ≤ suc n
@@ -186,25 +159,8 @@ same-redefined cut s line =
 
 -- A LINE OF CODE
 
-operation-of-code : (located : Bool) (operation : List ℕ) (pad in_table : Bool) (n : Option Instr) → is_pad operation ≡ pad → is_some (operation_of operation) ≡ in_table →
-    is_code (if pad then Pad located else (if in_table then class_of_operand located n else Other)) ≡ true → may_be_code operation ≡ true
-operation-of-code located operation true in_table n is_no table h = code-pad operation is_no
-operation-of-code located operation false true n is_no table h = code-operation operation table
-operation-of-code located operation false false n is_no table h = cc
-
--- it has an operation, which is one of the instruction table or NO
-code-line-by : (after located comment continued : Bool) (line bytes : List ℕ) → is_comment line ≡ comment → continues line ≡ continued →
-    is_code (if comment then Comment else (if continued then (if after then Refused else Other) else by_operation located bytes)) ≡ true →
-    (comment ≡ false) × (continued ≡ false) × (may_be_code (operation_in bytes) ≡ true)
-code-line-by after located true continued line bytes c d h = cc
-code-line-by true located false true line bytes c d h = cc
-code-line-by false located false true line bytes c d h = cc
-code-line-by after located false false line bytes c d h =
-    (refl, refl, operation-of-code located (operation_in bytes) (is_pad (operation_in bytes)) (is_some (operation_of (operation_in bytes))) (whole_instr bytes) refl refl h)
-
 pub code-line : (after : Bool) (line : List ℕ) → is_code (class_of after line) ≡ true → (is_comment (body line) ≡ false) × (continues (body line) ≡ false) × (may_be_code (upper (operation (body line))) ≡ true)
-code-line after line h =
-    code-line-by after (is_located (body line)) (is_comment (body line)) (continues (body line)) (body line) (from_operation (body line)) refl refl h
+code-line after line h = (let code = (class-tells after line).code h in (code.comment, code.comma, code.operation))
 
 none-over : (n : ℕ) → nat_lt 0 n ≡ false → n ≡ 0
 none-over n h = let none = ltb-false 0 n h in omega (arith, none)
@@ -268,28 +224,6 @@ stays-plain cut s line h code =
     (ap (λ t. if t then after_directive s (directive_cover (upper (drop 1 (body line)))) else s) h.no_directive) in
     ap₂ (λ (t : Standing) (off : Bool). record t { off = off }) same (same-off (is_on_switch (body line)) s.off (is_off_switch (body line)) h.on h.no_switch)
 
--- a comment has no operation
-not-comment : (located pad in_table : Bool) (n : Option Instr) → is_comment_class (if pad then Pad located else (if in_table then class_of_operand located n else Other)) ≡ false
-not-comment located true in_table n = refl
-not-comment located false true None = refl
-not-comment located false true (Some n) = refl
-not-comment located false false n = refl
-
-comment-line-by : (after comment continued : Bool) (c : Class) → is_comment_class c ≡ false → is_comment_class (if comment then Comment else (if continued then (if after then Refused else Other) else c)) ≡ true → comment ≡ true
-comment-line-by after true continued c other h = refl
-comment-line-by true false true c other h = cc
-comment-line-by false false true c other h = cc
-comment-line-by after false false c other h = absurd (true≢false (sym h ∙ other))
-
-comment-line : (after : Bool) (line : List ℕ) → is_comment_class (class_of after line) ≡ true → is_comment (body line) ≡ true
-comment-line after line h =
-    let bytes : List ℕ = from_operation (body line) in
-    comment-line-by after (is_comment (body line)) (continues (body line)) _
-    (not-comment (is_located (body line)) (is_pad (operation_in bytes)) (is_some (operation_of (operation_in bytes))) (whole_instr bytes)) h
-
-has-no-operation : (line : List ℕ) → is_comment line ≡ true → has_operation line ≡ false
-has-no-operation line comment = ap (λ is. not (is || continues line)) comment
-
 stays-if : (cut continued after alone : Bool) (s : Standing) (line : List ℕ) → is_alone cut s line continued ≡ alone →
     (is_code (if alone then Other else class_of after line) || is_comment_class (if alone then Other else class_of after line)) ≡ true → after_line cut s line ≡ s
 stays-if cut continued after true s line is h = cc
@@ -298,7 +232,7 @@ stays-if cut continued after false s line is h =
   where
     by_class : (is_code (class_of after line) ≡ true) ⊎ (is_comment_class (class_of after line) ≡ true) → has_operation (body line) ≡ true → may_be_code (upper (operation (body line))) ≡ true
     by_class (inl code) has = let (_, _, in_table) = code-line after line code in in_table
-    by_class (inr comment) has = absurd (true≢false (sym has ∙ has-no-operation (body line) (comment-line after line comment)))
+    by_class (inr comment) has = absurd (true≢false (sym has ∙ ap (λ is. not (is || continues (body line))) ((class-tells after line).comment comment)))
 
 -- a line of code or a comment that is not left alone has no switch, and nothing begins or ends at it
 pub settled-stays : (cut continued after : Bool) (s : Standing) (line : List ℕ) →

@@ -3,18 +3,18 @@ use Rattle.std.proofs.Common.{◌≡◌, ◌-◌, ◌&&◌, ◌||◌, ℕ, Bool,
 use Rattle.std.specs.Prelude.{None, bytes_eq, is_some}
 use Rattle.s66_line.specs.Class.{by_operation, class_of, class_of_operand, is_pad, is_located}
 use Rattle.s66_line.specs.Operand.{instr_of, operation_of, is_filled}
-use Rattle.s66_source.proofs.CharactersRead.{same-operand_in, same-operation_in, same-runs_on}
+use Rattle.s66_source.proofs.CharactersRead.{same-operand_in, same-operation_in, same-runs_on, upper-next}
 use Rattle.s66_line.specs.Fields.{after_word, body, operation, from_operand, from_operation, skip_blanks, upper, word, continues, is_comment, label_bytes}
 use Rattle.s66_line.specs.declared.class.Class.{Class}
 use Rattle.s66_line.specs.declared.class.Class.TheVariants.{Other, Pad, Comment, Refused, Instruction}
-use Rattle.s66_line.proofs.UpperCase.{length-upper, same-comment, same-continues, same-location, same-operation, upper-after_word, upper-from_operation, upper-if, upper-skip_blanks, upper-trim, upper-twice, upper-word, upper-label_bytes}
+use Rattle.s66_line.proofs.UpperCase.{length-upper, same-comment, same-continues, same-location, same-operation, upper-from_operation, upper-if, upper-trim, upper-twice, upper-label_bytes}
 use Rattle.s66_source.proofs.ReadBack.{class_of_body}
 use Rattle.s66_source.specs.Counts.{counting_text, is_covering}
 use Rattle.s66_source.proofs.Directives.{same-directive, same-text}
-use Rattle.s66_source.specs.LeftAlone.{Flagged, after_body, after_directive, after_operation, directive_cover, has_operation, with_directive, after_line, class_at, is_alone, is_continued, is_directive, is_switch, is_off_switch, is_on_switch, flagged_from, with_operation, is_doubtful, distance, is_far, is_held}
-use Rattle.s66_source.specs.LeftAlone.{Standing}
+use Rattle.s66_source.specs.LeftAlone.{Flagged, after_body, after_directive, after_operation, directive_cover, has_operation, with_directive, after_line, class_at, is_alone, is_continued, is_directive, is_switch, is_off_switch, is_on_switch, flagged_from, with_operation, is_doubtful, distance, is_far, is_held, Standing}
 use Rattle.s66_source.specs.Redefined.{Redefined, is_redefined}
-use Rattle.s66_source.proofs.RedefinedCase.{redefined-upper}
+use Rattle.s66_source.proofs.RedefinedCase.{redefined-upper, same-word}
+use Rattle.s66_source.proofs.ReadLine.{filled-upper}
 
 -- CLASSES
 
@@ -32,20 +32,14 @@ same-class after line = ap (class_of_body after) (upper-trim line) ∙ same-body
 
 -- WORDS
 
-same-word : (line : List ℕ) → upper (word (upper line)) ≡ upper (word line)
-same-word line = ap upper (upper-word line) ∙ upper-twice (word line)
-
-upper-next_word : (line : List ℕ) → skip_blanks (after_word (upper line)) ≡ upper (skip_blanks (after_word line))
-upper-next_word line = ap skip_blanks (upper-after_word line) ∙ upper-skip_blanks (after_word line)
-
 same-switch : (second line : List ℕ) → is_switch second (upper line) ≡ is_switch second line
 same-switch second line =
-    ap₂ (λ first next. bytes_eq first (codes "*S66") && bytes_eq next second) (same-word line) (ap (λ l. upper (word l)) (upper-next_word line) ∙ same-word (skip_blanks (after_word line)))
+    ap₂ (λ first next. bytes_eq first (codes "*S66") && bytes_eq next second) (same-word line) (ap (λ l. upper (word l)) (upper-next line) ∙ same-word (skip_blanks (after_word line)))
 
 -- WHAT AN OPERATION COVERS
 
 upper-from_operand : (line : List ℕ) → from_operand (upper line) ≡ upper (from_operand line)
-upper-from_operand line = ap (λ l. skip_blanks (after_word l)) (upper-from_operation line) ∙ upper-next_word (from_operation line)
+upper-from_operand line = ap (λ l. skip_blanks (after_word l)) (upper-from_operation line) ∙ upper-next (from_operation line)
 
 same-counting : (line : List ℕ) → upper (counting_text (upper line)) ≡ upper (counting_text line)
 same-counting line =
@@ -84,19 +78,15 @@ held_by cut s continued off directive = s.off || (off || (cut && (nat_lt 0 s.bod
 abbrev body_alone : Bool → Standing → Bool → List ℕ → Class → Bool
 body_alone cut s continued line c = held_by cut s continued (is_off_switch line) (is_directive line) || (cut && is_doubtful s.redefined c line)
 
-same-filled : (bytes : List ℕ) → is_filled (upper bytes) ≡ is_filled bytes
-same-filled [] = refl
-same-filled (b ∷ bytes) = refl
-
 same-distance : (bytes : List ℕ) → distance (upper bytes) ≡ distance bytes
-same-distance bytes = ap₂ (λ all rest. all - rest) (length-upper bytes) (ap length (upper-next_word bytes) ∙ length-upper (skip_blanks (after_word bytes)))
+same-distance bytes = ap₂ (λ all rest. all - rest) (length-upper bytes) (ap length (upper-next bytes) ∙ length-upper (skip_blanks (after_word bytes)))
 
 abbrev far_by : Bool → ℕ → ℕ → ℕ → Bool
 far_by filled behind label place = filled && (nat_le 19 behind || (nat_lt label 10 && nat_le 29 place))
 
 same-far : (line : List ℕ) → is_far (upper line) ≡ is_far line
 same-far line =
-    ap₂ (λ filled behind. far_by filled behind (length (label_bytes (upper line))) (length (upper line) - length (from_operand (upper line)))) (ap is_filled (upper-from_operand line) ∙ same-filled (from_operand line))
+    ap₂ (λ filled behind. far_by filled behind (length (label_bytes (upper line))) (length (upper line) - length (from_operand (upper line)))) (ap is_filled (upper-from_operand line) ∙ filled-upper (from_operand line))
     (ap distance (upper-from_operation line) ∙ same-distance (from_operation line))
     ∙ ap₂ (far_by (is_filled (from_operand line)) (distance (from_operation line))) (ap length (upper-label_bytes line) ∙ length-upper (label_bytes line))
     (ap₂ (λ all rest. all - rest) (length-upper line) (ap length (upper-from_operand line) ∙ length-upper (from_operand line)))

@@ -4,8 +4,9 @@ use Rattle.std.specs.Prelude.{ℕ, Bool, true, false, ◌&&◌, ◌||◌, ◌==�
 use Rattle.s66_line.specs.Block.{Block, line_of}
 use Rattle.s66_line.specs.Fields.{from_location, trim, is_trailing}
 use Rattle.s66_source.specs.LeftAlone.{Reading}
-use Rattle.s66_source.specs.Roles.{has_block, is_other_class, is_pad_class}
+use Rattle.s66_source.specs.Roles.{has_block, is_pad_class}
 use Rattle.s66_source.specs.Source.{Line, blocks_of, classed_lines}
+use Rattle.s66_line.specs.Class.{ends_run}
 
 -- the place of a block, or another line
 pub record FramePart : Type 0 where
@@ -25,7 +26,7 @@ line_part line = record { line = line.number; is_block = false; bytes = trim is_
 
 -- an Other line, or a `NO` of a run without an instruction
 abbrev pub is_beside : List Line → Line → Bool
-is_beside all line = is_other_class line.class || (is_pad_class line.class && not (has_block all line))
+is_beside all line = ends_run line.class || (is_pad_class line.class && not (has_block all line))
 
 abbrev pub part_beside : List Line → Line → List FramePart
 part_beside all line = if is_beside all line then line_part line ∷ [] else []

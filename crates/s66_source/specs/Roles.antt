@@ -3,11 +3,11 @@ use Rattle.std.specs.Prelude.{◌&&◌, ◌||◌, ◌==◌, not, codes, ◌++◌
 use Rattle.std.specs.List.{filter}
 use Rattle.s66_isa.specs.Lists.{some_of}
 use Rattle.s66_line.specs.declared.class.Class.{Class}
-use Rattle.s66_line.specs.declared.class.Class.TheVariants.{Comment, Other, Pad}
+use Rattle.s66_line.specs.declared.class.Class.TheVariants.{Comment, Pad}
 use Rattle.s66_source.specs.LeftAlone.{Reading}
 use Rattle.s66_source.specs.Source.{Line, classed_lines, blocks_of}
 use Rattle.s66_line.specs.Block.{Block, line_of}
-use Rattle.s66_line.specs.Class.{is_instruction}
+use Rattle.s66_line.specs.Class.{is_instruction, ends_run}
 
 abbrev pub is_comment_class : Class → Bool
 is_comment_class Comment = true
@@ -16,10 +16,6 @@ is_comment_class class = false
 abbrev pub is_pad_class : Class → Bool
 is_pad_class (Pad located) = true
 is_pad_class class = false
-
-abbrev pub is_other_class : Class → Bool
-is_other_class Other = true
-is_other_class class = false
 
 -- a comment between the first and the last instruction of the block: it moves in front of the block
 abbrev pub is_note_of : Line → Block → Bool
@@ -45,7 +41,7 @@ is_leading lines line = is_pad_class line.class && line.index == 0
 -- carriage returns at its end
 abbrev pub is_copied : List Line → Line → Bool
 is_copied lines line =
-    is_other_class line.class || (is_comment_class line.class && not (is_note lines line) || is_pad_class line.class && not (has_block lines line))
+    ends_run line.class || (is_comment_class line.class && not (is_note lines line) || is_pad_class line.class && not (has_block lines line))
 
 -- what it is: an instruction of a block, a note, left out, copied
 abbrev pub roles : List Line → Line → List Bool

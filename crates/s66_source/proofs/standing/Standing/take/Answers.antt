@@ -4,9 +4,8 @@ use Rattle.std.proofs.lemmas.Bool.{or_parts}
 use Rattle.s66_line.specs.Class.{class_of, is_code}
 use Rattle.s66_line.specs.Fields.{upper}
 use Rattle.s66_line.specs.declared.class.Class.TheVariants.{Other}
-use Rattle.s66_source.specs.LeftAlone.{after_line, class_at, is_alone}
+use Rattle.s66_source.specs.LeftAlone.{after_line, class_at, is_alone, Standing}
 use Rattle.s66_source.specs.Roles.{is_comment_class}
-use Rattle.s66_source.specs.LeftAlone.{Standing}
 use Rattle.s66_source.proofs.Standings.{bodies-grow, outside-alone, outside-after, settled-stays}
 use Rattle.s66_source.proofs.standing.Standing.take.Goals as goal
 
