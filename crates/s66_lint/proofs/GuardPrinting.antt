@@ -8,8 +8,8 @@ use Rattle.s66_source.specs.LeftAlone.{Flagged, flagged_from, is_alone, is_off_s
 use Rattle.s66_source.proofs.FlaggedLines.{flagged-found}
 use Rattle.s66_lint.specs.Guarded.{Begins, IsGuard, Kept, Mark, GuardedLine, beginnings, between, guarded_bytes, guarded_lines, is_end, is_guarded, marked_line, marked_lines, guarded_text, written_from}
 use Rattle.s66_lint.specs.LineMarks.{Finishes, GainsLines, first_mark, later_marks, mark_of, marks_of}
-use Rattle.s66_lint.specs.declared.guard.Guarded.{Guarded}
-use Rattle.s66_lint.specs.declared.marks.LineMark.{LineMark}
+use Rattle.s66_lint.specs.declared.guard.guard.Guarded.{Guarded}
+use Rattle.s66_lint.specs.declared.guard.marks.LineMark.{LineMark}
 use Rattle.s66_lint.proofs.SwitchedLines.{standing}
 
 -- THE TEXT of lines

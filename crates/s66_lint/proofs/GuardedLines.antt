@@ -21,7 +21,7 @@ use Rattle.s66_source.proofs.FlaggedLines.{bytes-flagged}
 use Rattle.s66_source.proofs.AloneLines.{alone-none}
 use Rattle.s66_lint.specs.Guarded.{Begins, Ends, Kept, Mark, MarkedLine, GuardedLine, beginnings, between, guarded_bytes, flag_of, guarded, guarded_flags, guarded_lines, is_left_alone, marked_line, marked_lines, read_flags, shown_reason, source_lines, unmarked, written_from}
 use Rattle.s66_lint.specs.Listing.{after_blank}
-use Rattle.s66_lint.specs.declared.guard.TheConstants.{REASON_LIMIT}
+use Rattle.s66_lint.specs.declared.guard.guard.TheConstants.{REASON_LIMIT}
 use Rattle.s66_lint.proofs.SwitchedLines.{at_plain, is_one_line, lines_of-with_newlines, standing}
 
 -- THE LINES OF THE SOURCE are kept

@@ -5,7 +5,7 @@ use Rattle.s66_isa.specs.Lists.{tally}
 use Rattle.s66_line.specs.Fields.{body, is_newline, lines_of, trim, with_newlines, is_trailing}
 use Rattle.s66_source.specs.LeftAlone.{Flagged, flagged_lines, is_on_switch, plain}
 use Rattle.s66_lint.specs.Listing.{after_blank}
-use Rattle.s66_lint.specs.declared.guard.TheConstants.{REASON_LIMIT}
+use Rattle.s66_lint.specs.declared.guard.guard.TheConstants.{REASON_LIMIT}
 
 -- THE LINES OF THE SOURCE
 

@@ -4,8 +4,8 @@ use Rattle.std.specs.Prelude.{◌≡◌, ◌+◌, ◌++◌, ℕ, List, [], ◌�
 use Rattle.std.specs.Global.{Vec}
 use Rattle.s66_isa.specs.Lists.{tally}
 use Rattle.s66_lint.specs.Guarded.{Mark, GuardedLine, is_end, is_guarded, guarded_text, unmarked}
-use Rattle.s66_lint.specs.declared.guard.Guarded.{Guarded}
-use Rattle.s66_lint.specs.declared.marks.LineMark.{LineMark}
+use Rattle.s66_lint.specs.declared.guard.guard.Guarded.{Guarded}
+use Rattle.s66_lint.specs.declared.guard.marks.LineMark.{LineMark}
 
 abbrev pub reason_texts : List (Vec ℕ) → List (List ℕ)
 reason_texts texts = map (λ (text : Vec ℕ). text.items) texts

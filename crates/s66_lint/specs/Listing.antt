@@ -8,10 +8,10 @@ use Rattle.s66_source.specs.LeftAlone.{Reading}
 use Rattle.s66_source.specs.declared.limits.TheConstants.{SOURCE_LINES_LIMIT}
 use Rattle.s66_lint.specs.Marks.{alone_lines, is_marked}
 use Rattle.s66_lint.specs.declared.finding.Finding.{Finding}
-use Rattle.s66_lint.specs.declared.finding.Rule.{Rule}
-use Rattle.s66_lint.specs.declared.finding.Rule.TheVariants.{TooLong, BadOperand, FarOperand, Redefined, NotAComment, NotAnInstruction, InColumn1, InColumn2, Directive, HasABody, LoadsCode, StoresIntoCode, TakesCode, PassesCode, SkipsWords, JoinsAWord, CountsWords, FallsIntoData, RowOfNo, CountsLines}
+use Rattle.s66_lint.specs.declared.finding.FindingRule.{FindingRule}
+use Rattle.s66_lint.specs.declared.finding.FindingRule.TheVariants.{TooLong, BadOperand, FarOperand, Redefined, NotAComment, NotAnInstruction, InColumn1, InColumn2, Directive, HasABody, LoadsCode, StoresIntoCode, TakesCode, PassesCode, SkipsWords, JoinsAWord, CountsWords, FallsIntoData, RowOfNo, CountsLines}
 
-abbrev pub rule_words : Rule → List ℕ
+abbrev pub rule_words : FindingRule → List ℕ
 rule_words TooLong = codes " TOO LONG"
 rule_words BadOperand = codes " BAD OPERAND"
 rule_words FarOperand = codes " FAR OPERAND"

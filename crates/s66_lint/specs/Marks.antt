@@ -6,8 +6,8 @@ use Rattle.s66_source.specs.LeftAlone.{Standing, after_line, at_first, is_alone,
 use Rattle.s66_source.specs.Redefined.{redefined_in}
 use Rattle.s66_source.specs.declared.limits.TheConstants.{SOURCE_LINES_LIMIT}
 use Rattle.s66_lint.specs.declared.finding.Finding.{Finding}
-use Rattle.s66_lint.specs.declared.finding.Rule.{Rule}
-use Rattle.s66_lint.specs.declared.finding.Rule.TheVariants.{BadOperand, CountsLines, Directive, FarOperand, HasABody, Redefined}
+use Rattle.s66_lint.specs.declared.finding.FindingRule.{FindingRule}
+use Rattle.s66_lint.specs.declared.finding.FindingRule.TheVariants.{BadOperand, CountsLines, Directive, FarOperand, HasABody, Redefined}
 
 -- a line that is too long is read as an empty one
 abbrev pub as_read : List ℕ → List ℕ
@@ -29,7 +29,7 @@ is_alone_at alone place = slice_index_or alone place false
 -- what a finding of this rule means is left alone: a refused line, one with an operand that
 -- isn't seen, a redefined one or a directive itself, the line after one that covers others; any
 -- other means no line
-abbrev pub means_alone : Rule → (here next : Bool) → Bool
+abbrev pub means_alone : FindingRule → (here next : Bool) → Bool
 means_alone BadOperand here next = here
 means_alone FarOperand here next = here
 means_alone Redefined here next = here

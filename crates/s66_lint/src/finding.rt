@@ -1,13 +1,13 @@
-//! The list of all rules (`Rule`), a finding in a line, and what a finding harms. When a rule applies is in `rules.rt`, how it is
+//! The list of all rules (`FindingRule`), a finding in a line, and what a finding harms. When a rule applies is in `rules/`, how it is
 //! worded in `listing.rt`.
 
+use crate::layout::Span;
 use crate::line::Line;
-use crate::words::Span;
 use s66_line::split_word;
 
 /// What may be wrong with a line, in the order in which the findings of one line are listed.
 #[derive(Clone, Copy)]
-pub enum Rule {
+pub enum FindingRule {
     /// It is too long.
     TooLong,
     /// It is refused.
@@ -53,7 +53,7 @@ pub enum Rule {
 /// What was found in a line, without the line's number: the rule, up to two words of the line, and what it harms.
 #[derive(Drop)]
 pub(crate) struct LineFinding<'a> {
-    pub(crate) rule: Rule,
+    pub(crate) rule: FindingRule,
     pub(crate) first: &'a [u8],
     pub(crate) second: &'a [u8],
     pub(crate) harm: Harm,
@@ -72,7 +72,7 @@ pub(crate) enum Harm {
 
 impl<'a> LineFinding<'a> {
     /// With the words of the line that are shown, as they are written.
-    pub(crate) fn of(rule: Rule, line: &Line<'a>, harm: Harm) -> LineFinding<'a> {
+    pub(crate) fn of(rule: FindingRule, line: &Line<'a>, harm: Harm) -> LineFinding<'a> {
         let (first, second) = shown(rule, line);
         LineFinding {
             rule,
@@ -84,15 +84,24 @@ impl<'a> LineFinding<'a> {
 }
 
 /// The words of a line that are shown with a finding.
-fn shown<'a>(rule: Rule, line: &Line<'a>) -> (&'a [u8], &'a [u8]) {
+fn shown<'a>(rule: FindingRule, line: &Line<'a>) -> (&'a [u8], &'a [u8]) {
     let none: &'a [u8] = &[];
     let written = line.written();
     match rule {
-        Rule::TooLong | Rule::RowOfNo => (none, none),
-        Rule::Directive | Rule::CountsLines if line.is_comment() => (split_word(line.body).0, none),
-        Rule::InColumn1 | Rule::InColumn2 => (written.location, written.operation),
-        Rule::NotAComment if !written.location.is_empty() => (written.location, written.operation),
-        Rule::NotAnInstruction | Rule::HasABody | Rule::CountsLines => (written.operation, none),
+        FindingRule::TooLong | FindingRule::RowOfNo => (none, none),
+        FindingRule::Directive | FindingRule::CountsLines if line.is_comment() => (
+            split_word(line.body).0,
+            none,
+        ),
+        FindingRule::InColumn1 | FindingRule::InColumn2 => (written.location, written.operation),
+        FindingRule::NotAComment if !written.location.is_empty() => (
+            written.location,
+            written.operation,
+        ),
+        FindingRule::NotAnInstruction | FindingRule::HasABody | FindingRule::CountsLines => (
+            written.operation,
+            none,
+        ),
         _ => (written.operation, written.operand),
     }
 }
@@ -101,7 +110,7 @@ fn shown<'a>(rule: Rule, line: &Line<'a>) -> (&'a [u8], &'a [u8]) {
 #[derive(Clone, Copy)]
 pub struct Finding<'a> {
     pub number: u32,
-    pub rule: Rule,
+    pub rule: FindingRule,
     pub first: &'a [u8],
     pub second: &'a [u8],
 }

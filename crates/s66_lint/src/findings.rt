@@ -5,13 +5,12 @@ ghost use Rattle.s66_line.specs.Fields.{lines_of};
 ghost use Rattle.s66_source.specs.declared.limits.TheConstants.{SOURCE_LINES_LIMIT};
 ghost use Rattle.s66_lint.specs.Listing.{AreFindings, IsFindings, has_more, is_in_order, past_line};
 
-use crate::cut::alone_lines;
 use crate::deck::{Deck, Lines};
-use crate::finding::{Finding, Harm, LineFinding, Rule};
+use crate::finding::{Finding, FindingRule, Harm, LineFinding};
+use crate::harm::Tracker;
 use crate::line::Line;
 use crate::listing::push_listing;
 use crate::rules::Rules;
-use crate::tracker::Tracker;
 use s66_line::LINE_BYTES_LIMIT;
 use s66_source::{Redefined, SOURCE_LINES_LIMIT, cut_line};
 use std::alloc::{AllocError, Global};
@@ -44,7 +43,7 @@ fn push_long(all: &mut Vec<Finding>, past: Option<usize>) -> Result<(), AllocErr
         OnOk result (is_in_order 1 (min (suc SOURCE_LINES_LIMIT) last) all.new.items ≡ true) }
 {
     let too_long = LineFinding {
-        rule: Rule::TooLong,
+        rule: FindingRule::TooLong,
         first: &[],
         second: &[],
         harm: Harm::Nothing,
@@ -64,12 +63,12 @@ fn found_in<'a>(
     lines: &'a [Line<'a>],
     past: Option<usize>,
     alone: &[bool],
+    redefined: Redefined,
 ) -> Result<Vec<Finding<'a>>, AllocError>
     requires lines { length lines.now ≤ min SOURCE_LINES_LIMIT (length (lines_of text.now)) }
     requires past { is_some past ≡ has_more text.now }
     ensures { IfOk result (λ all. AreFindings text.now all.items) }
 {
-    let redefined = Redefined::of(alloc, text)?;
     let rules = Rules::of(alloc, Deck::of(alloc, lines, alone)?, redefined)?;
     let mut tracker = Tracker::new(alloc, false);
     let mut all = Vec::new(alloc);
@@ -125,17 +124,19 @@ pub fn findings_in(alloc: Global, text: &[u8], cut: bool) -> Result<Listed, Allo
     ensures lines { IfOk result (λ listed. listed.lines ≡ length (lines_of listed.text.items)) }
 {
     let letters = text.to_ascii_uppercase(alloc)?;
-    let lines = Lines::of(alloc, text, letters.as_slice())?;
-    let alone = alone_lines(alloc, text)?;
+    let redefined = Redefined::of(alloc, text)?;
+    let lines = Lines::of(alloc, text, letters.as_slice(), &redefined)?;
+    let alone = lines.alone.as_slice();
     let all = found_in(
         alloc,
         text,
         lines.lines.as_slice(),
         lines.past,
-        left_alone(alone.as_slice(), cut),
+        left_alone(alone, cut),
+        redefined,
     )?;
     let mut out = Vec::new(alloc);
-    push_listing(&mut out, alone.as_slice(), all.as_slice(), cut)?;
+    push_listing(&mut out, alone, all.as_slice(), cut)?;
     push_past(&mut out, lines.past.is_some())?;
     let lines = count_lines(out.as_slice());
     Ok(Listed { text: out, lines })

@@ -4,34 +4,34 @@ ghost use Rattle.std.specs.Prelude.{◌≡◌, ◌++◌, codes, if◌then◌else
 ghost use Rattle.s66_lint.specs.Listing.{after_blank, finding_line, is_listed, listing, rule_words};
 ghost use Rattle.s66_lint.specs.Marks.{is_alone_at, is_marked};
 
-use crate::finding::{Finding, Rule};
+use crate::finding::{Finding, FindingRule};
 use s66_device::push_field;
 use std::alloc::AllocError;
 
-fn words_of(rule: Rule) -> &'static [u8]
+fn words_of(rule: FindingRule) -> &'static [u8]
     ensures { result.now ≡ rule_words rule }
 {
     match rule {
-        Rule::TooLong => b" TOO LONG",
-        Rule::BadOperand => b" BAD OPERAND",
-        Rule::FarOperand => b" FAR OPERAND",
-        Rule::Redefined => b" REDEFINED",
-        Rule::NotAComment => b" NOT A COMMENT",
-        Rule::NotAnInstruction => b" NOT AN INSTRUCTION",
-        Rule::InColumn1 => b" IN COLUMN 1",
-        Rule::InColumn2 => b" IN COLUMN 2",
-        Rule::Directive => b" DIRECTIVE",
-        Rule::HasABody => b" HAS A BODY",
-        Rule::LoadsCode => b" LOADS CODE",
-        Rule::StoresIntoCode => b" STORES INTO CODE",
-        Rule::TakesCode => b" TAKES CODE",
-        Rule::PassesCode => b" PASSES CODE",
-        Rule::SkipsWords => b" SKIPS WORDS",
-        Rule::JoinsAWord => b" JOINS A WORD",
-        Rule::CountsWords => b" COUNTS WORDS",
-        Rule::FallsIntoData => b" FALLS INTO DATA",
-        Rule::RowOfNo => b" ROW OF NO",
-        Rule::CountsLines => b" COUNTS LINES",
+        FindingRule::TooLong => b" TOO LONG",
+        FindingRule::BadOperand => b" BAD OPERAND",
+        FindingRule::FarOperand => b" FAR OPERAND",
+        FindingRule::Redefined => b" REDEFINED",
+        FindingRule::NotAComment => b" NOT A COMMENT",
+        FindingRule::NotAnInstruction => b" NOT AN INSTRUCTION",
+        FindingRule::InColumn1 => b" IN COLUMN 1",
+        FindingRule::InColumn2 => b" IN COLUMN 2",
+        FindingRule::Directive => b" DIRECTIVE",
+        FindingRule::HasABody => b" HAS A BODY",
+        FindingRule::LoadsCode => b" LOADS CODE",
+        FindingRule::StoresIntoCode => b" STORES INTO CODE",
+        FindingRule::TakesCode => b" TAKES CODE",
+        FindingRule::PassesCode => b" PASSES CODE",
+        FindingRule::SkipsWords => b" SKIPS WORDS",
+        FindingRule::JoinsAWord => b" JOINS A WORD",
+        FindingRule::CountsWords => b" COUNTS WORDS",
+        FindingRule::FallsIntoData => b" FALLS INTO DATA",
+        FindingRule::RowOfNo => b" ROW OF NO",
+        FindingRule::CountsLines => b" COUNTS LINES",
     }
 }
 
@@ -48,10 +48,16 @@ fn is_marked(alone: &[bool], found: &Finding) -> bool
     ensures { result ≡ is_marked alone.now found.now }
 {
     match found.rule {
-        Rule::BadOperand | Rule::FarOperand | Rule::Redefined | Rule::Directive => {
+        FindingRule::BadOperand
+        | FindingRule::FarOperand
+        | FindingRule::Redefined
+        | FindingRule::Directive => {
             is_alone_at(alone, (found.number as usize).saturating_sub(1))
         }
-        Rule::HasABody | Rule::CountsLines => is_alone_at(alone, found.number as usize),
+        FindingRule::HasABody | FindingRule::CountsLines => is_alone_at(
+            alone,
+            found.number as usize,
+        ),
         _ => false,
     }
 }
@@ -77,7 +83,7 @@ pub(crate) fn push_word(out: &mut Vec<u8>, word: &[u8]) -> Result<(), AllocError
 /// The words of a finding, as they are listed.
 pub(crate) fn push_text(
     out: &mut Vec<u8>,
-    rule: Rule,
+    rule: FindingRule,
     first: &[u8],
     second: &[u8],
 ) -> Result<(), AllocError> {

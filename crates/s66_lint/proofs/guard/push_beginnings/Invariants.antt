@@ -1,7 +1,0 @@
-use Rattle.std.proofs.Common.{◌≡◌, ◌++◌, drop, map}
-use Rattle.s66_lint.specs.Guarded.{Begins, guarded_text}
-use Rattle.s66_lint.specs.LineMarks.{reason_texts}
-use Rattle.s66_lint.proofs.guard.push_beginnings.Given as goal
-
-abbrev pub invariant-loop-reason : goal.invariant-loop-reason
-invariant-loop-reason l = l.out.items ++ guarded_text (map Begins (reason_texts (drop l.reason-index l.reasons))) ≡ l.fn.out.items ++ guarded_text (map Begins (reason_texts l.reasons))

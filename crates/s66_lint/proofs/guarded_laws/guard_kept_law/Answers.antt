@@ -1,5 +1,0 @@
-use Rattle.s66_lint.proofs.GuardedLines.{guard-kept}
-use Rattle.s66_lint.proofs.guarded_laws.guard_kept_law.Goals as goal
-
-pub returns : goal.returns
-returns c = guard-kept
