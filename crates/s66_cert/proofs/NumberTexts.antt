@@ -7,24 +7,25 @@ use Rattle.std.proofs.lemmas.Str.Parse.{IsDigitsTest, FoldsDigits, IsNumeralMode
 use Rattle.std.specs.Int.{IsInRange}
 use Rattle.std.specs.Prelude.{decimal}
 use Rattle.s66_isa.specs.Lists.{every}
-use Rattle.s66_cert.specs.Lines.{is_digit, value_after, has_no_leading_zero, is_number, number_in}
+use Rattle.s66_line.specs.Characters.{is_decimal}
+use Rattle.s66_cert.specs.Lines.{value_after, has_no_leading_zero, is_number, number_in}
 
 -- DIGITS
 
 abbrev pub AreDigits : List ℕ → Type 0
-AreDigits ds = every is_digit ds ≡ true
+AreDigits ds = every is_decimal ds ≡ true
 
-digit-range : (b : ℕ) → is_digit b ≡ true → IsInRange 48 57 b
+digit-range : (b : ℕ) → is_decimal b ≡ true → IsInRange 48 57 b
 digit-range b h = let both = and_parts (leb 48 b) (leb b 57) h in (leb-true 48 b both.0, leb-true b 57 both.1)
 
-range-digit : (b : ℕ) → IsInRange 48 57 b → is_digit b ≡ true
+range-digit : (b : ℕ) → IsInRange 48 57 b → is_decimal b ≡ true
 range-digit b h = and_from (leb 48 b) (leb b 57) (le-leb 48 b h.0) (le-leb b 57 h.1)
 
 tells : IsDigitsTest AreDigits
 tells = record {
   empty = refl;
-  parts = λ c cs h. (let both = and_parts (is_digit c) (every is_digit cs) h in (digit-range c both.0, both.1));
-  more = λ c cs h k. and_from (is_digit c) (every is_digit cs) (range-digit c h) k;
+  parts = λ c cs h. (let both = and_parts (is_decimal c) (every is_decimal cs) h in (digit-range c both.0, both.1));
+  more = λ c cs h k. and_from (is_decimal c) (every is_decimal cs) (range-digit c h) k;
 }
 
 folds : FoldsDigits value_after
@@ -52,7 +53,7 @@ decimal-value n h = digits_value-decimal own n h
 
 pub number-again : (low high n : ℕ) → n < 2 ^ 64 → low ≤ n → n ≤ high → number_in low high (decimal n) ≡ Some n
 number-again low high n fits above below =
-    let number : is_number (decimal n) ≡ true = and_from (has_no_leading_zero (decimal n)) (every is_digit (decimal n)) (decimal-plain n fits) (decimal-digits n fits) in
+    let number : is_number (decimal n) ≡ true = and_from (has_no_leading_zero (decimal n)) (every is_decimal (decimal n)) (decimal-plain n fits) (decimal-digits n fits) in
     let same : value_after 0 (decimal n) ≡ n = decimal-value n fits in
     rw (same, number, le-leb low n above, le-leb n high below) refl
 
@@ -73,7 +74,7 @@ number-is low high n w fits h =
     let got = cond_some (is_number w && leb low (value_after 0 w) && leb (value_after 0 w) high) (value_after 0 w) n h in
     let three = and_parts (is_number w && leb low (value_after 0 w)) (leb (value_after 0 w) high) got.0 in
     let two = and_parts (is_number w) (leb low (value_after 0 w)) three.0 in
-    let number = and_parts (has_no_leading_zero w) (every is_digit w) two.0 in
+    let number = and_parts (has_no_leading_zero w) (every is_decimal w) two.0 in
     let above : low ≤ value_after 0 w = leb-true low (value_after 0 w) two.1 in
     let below : value_after 0 w ≤ high = leb-true (value_after 0 w) high three.1 in
     let is : value_after 0 w ≡ n = got.1 in
@@ -89,7 +90,7 @@ is_other c b = not (eqb b c)
 pub digits-clear : (c : ℕ) (ds : List ℕ) → (IsInRange 48 57 c → ⊥) → AreDigits ds → every (is_other c) ds ≡ true
 digits-clear c [] out h = refl
 digits-clear c (d ∷ ds) out h =
-    let both = and_parts (is_digit d) (every is_digit ds) h in
+    let both = and_parts (is_decimal d) (every is_decimal ds) h in
     let range = digit-range d both.0 in
     let differs : eqb d c ≡ false = ne_eqb d c (λ same. out (omega (arith, range.0, same), omega (arith, range.1, same))) in
     and_from (is_other c d) (every (is_other c) ds) (not_from_false (eqb d c) differs) (digits-clear c ds out both.1)

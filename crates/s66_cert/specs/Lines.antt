@@ -9,6 +9,7 @@ use Rattle.s66_model.specs.Leaves.{Whole, Chain, Load, Parcels}
 use Rattle.s66_model.specs.Tree.{Vertex, AtTerminal, AtSplit}
 use Rattle.s66_model.specs.DominatedLeaves.{Ending, Bounding, Dominated, Factual}
 use Rattle.s66_model.specs.FactLeaves.{Next, Turned, AtLine, LoadFrom}
+use Rattle.s66_line.specs.Characters.{is_decimal}
 use Rattle.s66_line.specs.InstructionText.{spelling, operation_in, operand_in, IsInstruction}
 use Rattle.s66_line.specs.Operand.{instr_of}
 use Rattle.s66_line.specs.declared.limits.TheConstants.{TEXT_LIMIT}
@@ -105,9 +106,6 @@ words_in (Some bytes) = words_of bytes
 
 -- NUMBERS
 
-abbrev pub is_digit : ℕ → Bool
-is_digit b = nat_le 48 b && nat_le b 57
-
 -- the number that these digits write after those of n
 abbrev pub value_after : ℕ → List ℕ → ℕ
 value_after n [] = n
@@ -120,7 +118,7 @@ has_no_leading_zero (d ∷ []) = true
 has_no_leading_zero (d ∷ e ∷ ds) = not (d == 48)
 
 abbrev pub is_number : List ℕ → Bool
-is_number word = has_no_leading_zero word && every is_digit word
+is_number word = has_no_leading_zero word && every is_decimal word
 
 abbrev pub number_in : ℕ → ℕ → List ℕ → Option ℕ
 number_in low high word =

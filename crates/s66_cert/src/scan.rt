@@ -3,11 +3,13 @@
 ghost use Rattle.std.specs.Prelude.{◌≡◌, ◌≤◌, ◌<◌, ◌+◌, ◌-◌, ◌*◌, ◌^◌, true, if◌then◌else◌, length, IfSome};
 ghost use Rattle.std.specs.Option.{option_map};
 ghost use Rattle.s66_isa.specs.Lists.{every};
-ghost use Rattle.s66_cert.specs.Lines.{first_word, after_first_word, words_in, is_digit, value_after, has_no_leading_zero, number_in, numbers_in, if_count};
+ghost use Rattle.s66_line.specs.Characters.{is_decimal};
+ghost use Rattle.s66_cert.specs.Lines.{first_word, after_first_word, words_in, value_after, has_no_leading_zero, number_in, numbers_in, if_count};
 ghost use Rattle.s66_cert.specs.declared.limits.TheConstants.{LINE_LIMIT};
 
 use crate::limits::LINE_LIMIT;
 use arrayvec::ArrayVec;
+use s66_line::is_decimal_digit;
 
 /// The bytes before the first blank, and those after it if there is one.
 pub(crate) fn split_word(bytes: &[u8]) -> (&[u8], Option<&[u8]>)
@@ -23,16 +25,10 @@ pub(crate) fn split_word(bytes: &[u8]) -> (&[u8], Option<&[u8]>)
     (bytes, None)
 }
 
-fn is_digit(byte: u8) -> bool
-    ensures { result ≡ is_digit byte }
-{
-    byte >= b'0' && byte <= b'9'
-}
-
 /// The number that the digits write after those of another.
 fn with_digit(value: u32, byte: u8) -> u32
     requires small { value ≤ 99999999 }
-    requires digit { is_digit byte ≡ true }
+    requires digit { is_decimal byte ≡ true }
     ensures value { result ≡ value * 10 + (byte - 48) }
     ensures below { result < 10 * value + 10 }
 {
@@ -42,12 +38,12 @@ fn with_digit(value: u32, byte: u8) -> u32
 /// The value of at most nine bytes, if all are digits.
 fn value_of(word: &[u8]) -> Option<u32>
     requires { length word.now ≤ 9 }
-    ensures value { result ≡ (if every is_digit word.now then Some (value_after 0 word.now) else None) }
+    ensures value { result ≡ (if every is_decimal word.now then Some (value_after 0 word.now) else None) }
     ensures small { IfSome result (λ n. n < 10 ^ 9) }
 {
     let mut value = 0;
     for byte in word {
-        if !is_digit(*byte) {
+        if !is_decimal_digit(*byte) {
             return None;
         }
         value = with_digit(value, *byte);
