@@ -1,13 +1,12 @@
 -- Used by contracts within the crate alone: the lines of an answer's tree that are still to come, by the prefix of the next one and by its node.
-use Rattle.std.specs.Prelude.{ℕ, ◌≡◌, ◌<◌, Bool, true, false, List, [], ◌∷◌, length, get_or}
-use Rattle.s66_isa.specs.declared.instr.Instr.{Instr}
+use Rattle.std.specs.Prelude.{ℕ, ◌≡◌, ◌<◌, Bool, List, [], length, get_or}
 use Rattle.s66_isa.specs.Lists.{Among}
 use Rattle.s66_model.specs.Timing.{Problem}
 use Rattle.s66_model.specs.LegalOrder.{IsBeginning}
 use Rattle.s66_model.specs.DominatedLeaves.{Ending}
 use Rattle.s66_model.specs.Tree.{Vertex}
 use Rattle.s66_model.specs.Ledger as model
-use Rattle.s66_model.specs.Later.{later}
+use Rattle.s66_model.specs.Later.{coming}
 use Rattle.s66_model.specs.NodeTable.{IsTable}
 use Rattle.s66_model.specs.NodeTree.{is_split_at, ending_at}
 use Rattle.s66_model.specs.TreeLines.{lines_of}
@@ -19,14 +18,9 @@ use Rattle.s66_ledger.specs.Nodes.{nodes_of, prefixes}
 abbrev pub lines_from : Problem → List Node → List (List ℕ) → List (Vertex Ending)
 lines_from b nodes ats = lines_of b.block (is_split_at (nodes_of b nodes)) (ending_at b (nodes_of b nodes)) ats
 
--- the prefix and those after it, if there is more; else none
-abbrev pub to_come : List Instr → Bool → List ℕ → List (List ℕ)
-to_come block true prefix = prefix ∷ later block [] prefix
-to_come block false prefix = []
-
 -- their lines
 abbrev pub lines_left : Problem → List Node → Bool → List ℕ → List (Vertex Ending)
-lines_left b nodes more prefix = lines_from b nodes (to_come b.block more prefix)
+lines_left b nodes more prefix = lines_from b nodes (coming b.block more prefix)
 
 -- THE NODES
 

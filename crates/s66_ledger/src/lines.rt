@@ -3,12 +3,12 @@
 ghost use Rattle.std.specs.Prelude.{◌≡◌, ◌≢◌, ◌<◌, ◌+◌, ◌++◌, [], ◌∷◌, true, length, IfOk, OnOk};
 ghost use Rattle.s66_bound.specs.LeafValues.{leaf_of};
 ghost use Rattle.s66_isa.specs.Members.{numbers_in};
-ghost use Rattle.s66_model.specs.Later.{children, later};
+ghost use Rattle.s66_model.specs.Later.{children, coming, later};
 ghost use Rattle.s66_model.specs.LegalOrder.{is_ready, ready};
 ghost use Rattle.s66_model.specs.NodeTree.{is_split_at, ending_at};
 ghost use Rattle.s66_model.specs.DominatedLeaves.{Bounding};
 ghost use Rattle.s66_model.specs.Tree.{AtTerminal};
-ghost use Rattle.s66_ledger.specs.AnswerLines.{AreOneTree, StandsAt, lines_left, to_come};
+ghost use Rattle.s66_ledger.specs.AnswerLines.{AreOneTree, StandsAt, lines_left};
 ghost use Rattle.s66_ledger.specs.Links.{AreLinks};
 ghost use Rattle.s66_ledger.specs.Nodes.{stored_at, nodes_of, HaveFloors};
 ghost use Rattle.s66_node.specs.declared.node.State.TheVariants as state;
@@ -104,7 +104,7 @@ fn go_on(nodes: &[Node], links: &Links, walk: &mut Walk<'_>, node: &mut usize) -
     requires links { AreLinks nodes.now links.now.last.items links.now.before.items (length nodes.now) }
     requires stands { StandsAt nodes.now node.old walk.old.numbers }
     ensures problem { walk.new.problem ≡ walk.old.problem }
-    ensures next { to_come walk.old.problem.block result walk.new.numbers ≡
+    ensures next { coming walk.old.problem.block result walk.new.numbers ≡
         later walk.old.problem.block [] walk.old.numbers }
     ensures stands { result ≡ true → StandsAt nodes.now node.new walk.new.numbers }
 {
@@ -134,7 +134,7 @@ fn go_below(
     requires split { is_split_at (nodes_of walk.old.problem nodes.now) walk.old.numbers ≡ true }
     requires numbers { numbers_in numbers ≡ ready walk.old.problem.block walk.old.numbers }
     ensures problem { walk.new.problem ≡ walk.old.problem }
-    ensures next { to_come walk.old.problem.block result walk.new.numbers ≡
+    ensures next { coming walk.old.problem.block result walk.new.numbers ≡
         children walk.old.numbers (numbers_in numbers) ++ later walk.old.problem.block [] walk.old.numbers }
     ensures stands { result ≡ true → StandsAt nodes.now node.new walk.new.numbers }
 {

@@ -1,11 +1,10 @@
 use Rattle.std.proofs.Common.{◌≡◌, ◌++◌, ◌∷◌, [], ℕ, List, ap, subst, ◌∙◌}
 use Rattle.s66_isa.specs.Members.{numbers_in}
 use Rattle.s66_model.specs.DominatedLeaves.{Ending}
-use Rattle.s66_model.specs.Later.{children, later}
+use Rattle.s66_model.specs.Later.{children, coming, later}
 use Rattle.s66_model.specs.Tree.{Vertex, AtSplit}
 use Rattle.s66_node.specs.declared.node.Node.{Node}
 use Rattle.s66_node.specs.Walked.{Walked}
-use Rattle.s66_ledger.specs.AnswerLines.{to_come}
 use Rattle.s66_ledger.specs.Nodes.{no_stored}
 use Rattle.s66_ledger.proofs.AnswerLines.{split-here, split-line, terminal-line, line-appended, one-longer}
 use Rattle.s66_ledger.proofs.NodePrefixes.{get_or-any}
@@ -28,9 +27,9 @@ pub returns-in-Split-clause-rest : goal.returns-in-Split-clause-rest
 returns-in-Split-clause-rest c =
     let w = c.args.walk.now in
     let stands = c.requires.stands in
-    let next : to_come w.problem.block c.go_below.result c.go_below.new.walk.numbers ≡ children w.numbers (numbers_in c.ready-numbers.result) ++ later w.problem.block [] w.numbers =
+    let next : coming w.problem.block c.go_below.result c.go_below.new.walk.numbers ≡ children w.numbers (numbers_in c.ready-numbers.result) ++ later w.problem.block [] w.numbers =
     subst
-    (λ (x : Walked). to_come x.problem.block c.go_below.result c.go_below.new.walk.numbers ≡ children x.numbers (numbers_in c.ready-numbers.result) ++ later x.problem.block [] x.numbers)
+    (λ (x : Walked). coming x.problem.block c.go_below.result c.go_below.new.walk.numbers ≡ children x.numbers (numbers_in c.ready-numbers.result) ++ later x.problem.block [] x.numbers)
     c.ready-numbers.ensures.same c.go_below.ensures.next
     in
     line-appended _ _ _ _ _ (split-pushed _ _ _ _ c.in_ok-push.ensures.pushed (c.as_slice.ensures.value ∙ c.numbers.ensures))
