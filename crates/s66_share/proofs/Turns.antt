@@ -11,9 +11,9 @@ use Rattle.atomic_table.specs.Table.{State, Me, keeps, takes, gives, Allows, Spl
 use Rattle.atomic_table.proofs.Lists.{at_set, set_here, set_else, set_again, at_longer}
 use Rattle.s66_isa.proofs.Lists.{weigh-append, tally-append}
 use Rattle.s66_model.specs.Accounts.{Summary, SeatRecord, Agrees, opened}
-use Rattle.s66_share.specs.SeatViews.{View, Stage, Idle, Founding, Holding, idle, holding, founding, first_of, rest_of, books_of, found_at, first_book, renewed, GoesOn, MayBecome}
+use Rattle.s66_share.specs.SeatViews.{View, Stage, Idle, Founding, Holding, idle, holding, founding, first_of, rest_of, books_of, found_at, first_book, renewed, SummaryGoesOn, MayBecome}
 use Rattle.s66_share.specs.LockTokens.{HaveEvery}
-use Rattle.s66_share.specs.Locked.{AllAgree, IsOnce, Has, IsFree, IsTaken, Locked, keep_least, read_best, keep_books, GaveFirst, FoundedAt}
+use Rattle.s66_share.specs.Locked.{AllAgree, IsOnce, Has, IsFree, IsLockHeld, Locked, keep_least, read_best, keep_books, GaveFirst, FoundedAt}
 use Rattle.s66_share.proofs.Seats.{inside, each-set, each-snoc, each-one, weigh-replaced, le-weigh_at, two-le-weigh, one_item}
 use Rattle.s66_share.proofs.Books.{own, cut, rest-agree, first-agree, others-agree, opened_once, opened-agrees, opened-agree, some_opened, has_book}
 
@@ -32,7 +32,7 @@ other_stage s homes holder v e has is_idle = subst (λ (g : Stage). Has s homes 
 twice : (views : List View) (id other n : ℕ) (v u : View) → IsOnce views → get_elem? views id ≡ some v → get_elem? views other ≡ some u → other ≢ id → 1 ≤ among n v → 1 ≤ among n u → ⊥
 twice views id other n v u once at at' ne a b = omega (arith, two-le-weigh (among n) views id other v u at at' ne, once n)
 
-goes_on : (s t u : Summary) → GoesOn s t → GoesOn t u → GoesOn s u
+goes_on : (s t u : Summary) → SummaryGoesOn s t → SummaryGoesOn t u → SummaryGoesOn s u
 goes_on s t u a b = record { rule = b.rule ∙ a.rule; problem = b.problem ∙ a.problem; budget = b.budget ∙ a.budget; workers = b.workers ∙ a.workers; best = omega (arith, a.best, b.best) }
 
 module _ {X : Type 0} (summary : X → Summary) (key : X) where
@@ -72,7 +72,7 @@ module _ {X : Type 0} (summary : X → Summary) (key : X) where
         ),
         ((λ is. (x, refl, f.agree id me.0 at)), λ isnt. absurd (isnt now)),
       ))
-      (λ (o : IsTaken (summary key) s).
+      (λ (o : IsLockHeld (summary key) s).
       let now : get_or s.words 0 0 ≡ 1 = ap (λ ws. get_or ws 0 0) o.word in
       let again : set s.views id me.0 ≡ s.views = set_again s.views id me.0 at in
       let ws : set s.words 0 (either (eqb (get_or s.words 0 0) 0) 1 (get_or s.words 0 0)) ≡ 1 ∷ [] = ap (λ l. set l 0 (either (eqb (get_or l 0 0) 0) 1 (get_or l 0 0))) o.word in
@@ -93,7 +93,7 @@ module _ {X : Type 0} (summary : X → Summary) (key : X) where
       → Allows (Locked summary key) slots id (record { stage = Founding y; books = bs }, []) 0 (λ n. n) (λ word after. after ≡ (holding y bs, (0, None) ∷ []))
   begins slots id y bs s h long at small = let v : View = record { stage = Founding y; books = bs } in ⊎_elim
       (λ (f : IsFree summary (summary key) s). absurd (let e : Founding y ≡ Idle = f.idles id v at in cc))
-      (λ (o : IsTaken (summary key) s).
+      (λ (o : IsLockHeld (summary key) s).
       let here : id ≡ o.holder = the_holder s.views id o.holder v (λ e. cc) at o.others in
       let same : o.view ≡ v = some-injective o.view v (sym o.at ∙ ap (λ k. get_elem? s.views k) (sym here) ∙ at) in
       let has : (y ≡ o.found) × (s.homes ≡ some None ∷ []) = subst (λ (u : View). Has o.found s.homes u.stage) same o.has in
@@ -122,18 +122,18 @@ module _ {X : Type 0} (summary : X → Summary) (key : X) where
       h.1
 
   -- the seat gives the value back, if its own seat records agree with it, and so do those of each other seat
-  gives_it : (slots id : ℕ) (y : Summary) (bs cs : List SeatRecord) (x : X) → slots ≡ 1 → GoesOn y (summary x)
+  gives_it : (slots id : ℕ) (y : Summary) (bs cs : List SeatRecord) (x : X) → slots ≡ 1 → SummaryGoesOn y (summary x)
       → ((n : ℕ) → books_of n cs ≡ books_of n bs) → All (Agrees (summary x)) cs
       → ((us : List SeatRecord) → ((n : ℕ) → books_of n bs + books_of n us ≤ 1) → All (Agrees y) us → All (Agrees (summary x)) us)
       → Allows (Locked summary key) slots id (holding y bs, (0, Some x) ∷ []) 0 (λ n. 0) (λ word after. after ≡ (idle cs, []))
   gives_it slots id y bs cs x one search same agree others s h long at small = let v : View = holding y bs in let w : View = idle cs in ⊎_elim
       (λ (f : IsFree summary (summary key) s). absurd (let e : Holding y ≡ Idle = f.idles id v at in cc))
-      (λ (o : IsTaken (summary key) s).
+      (λ (o : IsLockHeld (summary key) s).
       let here : id ≡ o.holder = the_holder s.views id o.holder v (λ e. cc) at o.others in
       let it : o.view ≡ v = some-injective o.view v (sym o.at ∙ ap (λ k. get_elem? s.views k) (sym here) ∙ at) in
       let has : y ≡ o.found = subst (λ (u : View). Has o.found s.homes u.stage) it o.has in
       let was : AllAgree y s.views = subst (λ (z : Summary). AllAgree z s.views) (sym has) o.agree in
-      let of_key : GoesOn (summary key) y = subst (λ (z : Summary). GoesOn (summary key) z) (sym has) o.search in (
+      let of_key : SummaryGoesOn (summary key) y = subst (λ (z : Summary). SummaryGoesOn (summary key) z) (sym has) o.search in (
         w,
         gives,
         tt,
@@ -171,7 +171,7 @@ module _ {X : Type 0} (summary : X → Summary) (key : X) where
               agree = agree (summary f.value) f.agree;
               idles = each-snoc (λ j u. u.stage ≡ Idle) vs r (each-set (λ j u. u.stage ≡ Idle) s.views id l refl (λ j u ne e. f.idles j u e)) (λ j. refl);
             })
-            (λ (o : IsTaken (summary key) s).
+            (λ (o : IsLockHeld (summary key) s).
             let away : o.holder ≢ id = λ e. other_stage o.found s.homes o.view v (sym o.at ∙ ap (λ k. get_elem? s.views k) e ∙ at) o.has is_idle in inr record {
               found = o.found;
               holder = o.holder;
@@ -205,7 +205,7 @@ module _ {X : Type 0} (summary : X → Summary) (key : X) where
               agree = agree (summary f.value) f.agree;
               idles = each-set (λ j w. w.stage ≡ Idle) vs other spent refl (λ j w ne e. each-set (λ i z. z.stage ≡ Idle) s.views id both refl (λ i z _ e'. f.idles i z e') j w e);
             })
-            (λ (o : IsTaken (summary key) s).
+            (λ (o : IsLockHeld (summary key) s).
             let away : o.holder ≢ id = λ e. other_stage o.found s.homes o.view v (sym o.at ∙ ap (λ k. get_elem? s.views k) e ∙ at) o.has v_idle in
             let away' : o.holder ≢ other = λ e. other_stage o.found s.homes o.view u (sym o.at ∙ ap (λ k. get_elem? s.views k) e ∙ was) o.has u_idle in inr record {
               found = o.found;
@@ -235,7 +235,7 @@ module _ {X : Type 0} (summary : X → Summary) (key : X) where
   settles : (slots id : ℕ) (y : Summary) (bs : List SeatRecord) (x : X) → slots ≡ 1 → y ≡ summary x → All (Agrees y) bs
       → Allows (Locked summary key) slots id (holding y bs, (0, Some x) ∷ []) 0 (λ n. 0) (λ word after. after ≡ (idle bs, []))
   settles slots id y bs x one is agree =
-      let P : Summary → Type 0 = λ z. GoesOn y z in
+      let P : Summary → Type 0 = λ z. SummaryGoesOn y z in
       gives_it slots id y bs bs x one (subst P is record { rule = refl; problem = refl; budget = refl; workers = refl; best = omega arith }) (λ n. refl) (subst (λ (z : Summary). All (Agrees z) bs) is agree)
       (λ us few agree'. subst (λ (z : Summary). All (Agrees z) us) is agree')
 
@@ -258,10 +258,10 @@ module _ {X : Type 0} (summary : X → Summary) (key : X) where
 
   closes : (id : ℕ) (v : View) (ws : List ℕ) (xs : List (Option X)) → v.stage ≡ Idle → HaveEvery (length (summary key).accounts) v.books
       → Final (Seen (Locked summary key) id v) ws xs
-      → (x : X) × (get_elem? xs 0 ≡ some (Some x)) × GoesOn (summary key) (summary x) × All (Agrees (summary x)) v.books
+      → (x : X) × (get_elem? xs 0 ≡ some (Some x)) × SummaryGoesOn (summary key) (summary x) × All (Agrees (summary x)) v.books
   closes id v ws xs is_idle every f = let s : S = f.0 in let h = f.1.0 in let at = f.1.1 in ⊎_elim
       (λ (free : IsFree summary (summary key) s). (free.value, f.4 0 (Some free.value) (ap (λ hs. get_elem? hs 0) free.home), free.search, free.agree id v at))
-      (λ (o : IsTaken (summary key) s).
+      (λ (o : IsLockHeld (summary key) s).
       let away : o.holder ≢ id = λ e. other_stage o.found s.homes o.view v (sym o.at ∙ ap (λ k. get_elem? s.views k) e ∙ at) o.has is_idle in
       let b = has_book o.found o.view.books o.some_book (o.agree o.holder o.view o.at) in
       absurd (twice s.views id o.holder b.0 v o.view h.0 at o.at away (every b.0 b.1 (omega (arith, b.2, o.search.workers))) b.3))
@@ -310,17 +310,17 @@ module _ {X : Type 0} (summary : X → Summary) (key : X) where
 
   module _ (id : ℕ) (m : Me (Option X) View) (ws : List ℕ) (xs : List (Option X)) (is : m ≡ (idle m.0.books, [])) (every : HaveEvery (length (summary key).accounts) m.0.books)
       (final : Final (Seen (Locked summary key) id m.0) ws xs) where
-    closed : (x : X) × (get_elem? xs 0 ≡ some (Some x)) × GoesOn (summary key) (summary x) × All (Agrees (summary x)) m.0.books
+    closed : (x : X) × (get_elem? xs 0 ≡ some (Some x)) × SummaryGoesOn (summary key) (summary x) × All (Agrees (summary x)) m.0.books
     closed = closes id m.0 ws xs (ap (λ (k : Me (Option X) View). k.0.stage) is) every final
 
     pub closed_once : (w : ℕ) → books_of w m.0.books ≤ 1
     closed_once w = omega (arith, le-weigh_at (among w) final.0.views id m.0 final.1.1, final.1.0.0 w)
 
-    pub closed_value : (y : X) → get_elem? xs 0 ≡ some (Some y) → GoesOn (summary key) (summary y) × All (Agrees (summary y)) m.0.books
+    pub closed_value : (y : X) → get_elem? xs 0 ≡ some (Some y) → SummaryGoesOn (summary key) (summary y) × All (Agrees (summary y)) m.0.books
     closed_value y at =
         let both : Some closed.0 ≡ Some y = some-injective (Some closed.0) (Some y) (sym closed.1 ∙ at) in
         let e : closed.0 ≡ y = cc in
-        (subst (λ (z : X). GoesOn (summary key) (summary z)) e closed.2, subst (λ (z : X). All (Agrees (summary z)) m.0.books) e closed.3)
+        (subst (λ (z : X). SummaryGoesOn (summary key) (summary z)) e closed.2, subst (λ (z : X). All (Agrees (summary z)) m.0.books) e closed.3)
 
     pub closed_some : get_elem? xs 0 ≡ some None → ⊥
     closed_some at = let e : Some closed.0 ≡ None = some-injective (Some closed.0) None (sym closed.1 ∙ at) in cc

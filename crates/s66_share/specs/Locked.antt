@@ -7,7 +7,7 @@ use lib.ListN.{get_elem?}
 use Rattle.atomic_table.specs.Table.{State, Me, Step}
 use Rattle.s66_isa.specs.Lists.{weigh}
 use Rattle.s66_model.specs.Accounts.{Summary, SeatRecord, Agrees, opened}
-use Rattle.s66_share.specs.SeatViews.{View, Stage, Idle, Founding, Holding, books_of, idle, holding, renewed, GoesOn}
+use Rattle.s66_share.specs.SeatViews.{View, Stage, Idle, Founding, Holding, books_of, idle, holding, renewed, SummaryGoesOn}
 
 abbrev pub AllAgree : Summary → List View → Type 0
 AllAgree s views = (seat : ℕ) (v : View) → get_elem? views seat ≡ some v → All (Agrees s) v.books
@@ -27,12 +27,12 @@ pub record IsFree {X : Type 0} (summary : X → Summary) (about : Summary) (s : 
   pub value : X
   pub word : s.words ≡ 0 ∷ []
   pub home : s.homes ≡ some (Some value) ∷ []
-  pub search : GoesOn about (summary value)
+  pub search : SummaryGoesOn about (summary value)
   pub agree : AllAgree (summary value) s.views
   pub idles : (seat : ℕ) (v : View) → get_elem? s.views seat ≡ some v → v.stage ≡ Idle
 
 -- One seat, which has a seat record, has the lock; with the summary that it found every seat record agrees
-pub record IsTaken {X : Type 0} (about : Summary) (s : State (Option X) View) : Type 0 where
+pub record IsLockHeld {X : Type 0} (about : Summary) (s : State (Option X) View) : Type 0 where
   pub found : Summary
   pub holder : ℕ
   pub view : View
@@ -40,13 +40,13 @@ pub record IsTaken {X : Type 0} (about : Summary) (s : State (Option X) View) : 
   pub at : get_elem? s.views holder ≡ some view
   pub has : Has found s.homes view.stage
   pub some_book : 0 < length view.books
-  pub search : GoesOn about found
+  pub search : SummaryGoesOn about found
   pub agree : AllAgree found s.views
   pub others : (seat : ℕ) (v : View) → get_elem? s.views seat ≡ some v → seat ≢ holder → v.stage ≡ Idle
 
 module _ {X : Type 0} (summary : X → Summary) where
   abbrev pub Locked : X → State (Option X) View → Type 0
-  Locked key s = IsOnce s.views × (IsFree summary (summary key) s ⊎ IsTaken (summary key) s)
+  Locked key s = IsOnce s.views × (IsFree summary (summary key) s ⊎ IsLockHeld (summary key) s)
 
   -- the lock was free and is now the seat's, with the value; or it was out, and nothing changed
   abbrev pub Took : Step (Option X) → Me (Option X) View → ℕ → Me (Option X) View → Type 0

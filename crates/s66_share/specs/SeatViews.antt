@@ -47,7 +47,7 @@ books_of w books = tally (λ p. p.who == w) books
 
 -- the search goes on from one to the other: neither rule nor problem nor budget nor the number of workers differs, and the best time
 -- doesn't rise
-pub record GoesOn (s t : Summary) : Type 0 where
+pub record SummaryGoesOn (s t : Summary) : Type 0 where
   pub rule : t.rule ≡ s.rule
   pub problem : t.problem ≡ s.problem
   pub budget : t.budget ≡ s.budget
@@ -56,7 +56,7 @@ pub record GoesOn (s t : Summary) : Type 0 where
 
 -- what a call of the worker may make of a summary: the seat records of all others still agree
 pub record MayBecome (who : ℕ) (s t : Summary) : Type 0 where
-  pub search : GoesOn s t
+  pub search : SummaryGoesOn s t
   pub others : (p : SeatRecord) → p.who ≢ who → Agrees s p → Agrees t p
 
 -- the worker's seat record, opened anew with this least time

@@ -105,7 +105,7 @@ impl Join<View> for Collects {
 impl<S: Summed + Drop> Lock<S> {
     ghost use Rattle.std.specs.Prelude.{◌≡◌, ℕ, ◌<◌, ◌≤◌, [], ◌∷◌, ◌++◌, length, All, IfOk, None};
     ghost use Rattle.s66_model.specs.Accounts.{Agrees, opened};
-    ghost use Rattle.s66_share.specs.SeatViews.{GoesOn, MayBecome, all_opened, books_of, renewed, idle, holding, first_of, rest_of, first_book};
+    ghost use Rattle.s66_share.specs.SeatViews.{SummaryGoesOn, MayBecome, all_opened, books_of, renewed, idle, holding, first_of, rest_of, first_book};
     ghost use Rattle.s66_share.specs.LockTokens.{book, found, IsResting, IsHolding, IsIdle, HaveEvery};
 
     /// Waits until the lock is free, and takes the value.
@@ -216,7 +216,7 @@ impl<S: Summed + Drop> Lock<S> {
         requires here { all.table_id ≡ self.table.shared.table_id }
         requires idle { IsIdle all }
         requires every { HaveEvery (length (S.summary self.table.shared.key).accounts) all.me.0.books }
-        ensures search { GoesOn (S.summary self.table.shared.key) (S.summary result) }
+        ensures search { SummaryGoesOn (S.summary self.table.shared.key) (S.summary result) }
         ensures agrees { All (Agrees (S.summary result)) all.me.0.books }
         ensures once { (w : ℕ) → books_of w all.me.0.books ≤ 1 }
     {
