@@ -8,7 +8,7 @@ use Rattle.s66_model.specs.Accounts.{Summary, account_of, opened}
 use Rattle.s66_model.proofs.Beginnings.{length-rising}
 use Rattle.s66_ledger.specs.Ledgers.{LedgerOf, account_summary, events_of}
 use Rattle.s66_pool.specs.Hubs.{HubOf, SeatOf, HaveSeats}
-use Rattle.s66_pool.specs.Workers.{AreSameSeats, GoesOn}
+use Rattle.s66_pool.specs.Workers.{AreSameSeats, LedgerGoesOn}
 
 have-seats-from : (f : ℕ → SeatOf) → ((n : ℕ) → (f n).book.who ≡ n) → (count low : ℕ) (back : List SeatOf) → AreSameSeats (map f (rising count low)) back →
     (w : ℕ) → low ≤ w → w < low + count → some_of (λ s. s.book.who == w) back ≡ true
@@ -34,7 +34,7 @@ have-seats hub l seats back is dealt same w from within =
 
 -- what is closed is the ledger of the search that was opened, gone on with
 pub closed-goes-on : (s : Summary) (l closed : LedgerOf) → s ≡ account_summary l → closed.rule ≡ s.rule → closed.problem ≡ s.problem → closed.budget ≡ s.budget → closed.workers ≡ length s.accounts
-    → best_time closed.problem closed.state ≤ s.best → GoesOn l closed
+    → best_time closed.problem closed.state ≤ s.best → LedgerGoesOn l closed
 closed-goes-on s l closed is by problem budget workers best = (
   problem ∙ ap (λ (x : Summary). x.problem) is,
   budget ∙ ap (λ (x : Summary). x.budget) is,

@@ -25,8 +25,8 @@ AreSameSeats seats others =
 
 -- the search goes on from one to the other: of the same problem by the same rule, for the same budget and workers, and its best time
 -- doesn't rise
-abbrev pub GoesOn : LedgerOf → LedgerOf → Type 0
-GoesOn old new =
+abbrev pub LedgerGoesOn : LedgerOf → LedgerOf → Type 0
+LedgerGoesOn old new =
     (new.problem ≡ old.problem) × (new.budget ≡ old.budget) × (new.workers ≡ old.workers) × (new.rule ≡ old.rule)
     × (best_time new.problem new.state ≤ best_time old.problem old.state)
 

@@ -44,9 +44,8 @@ impl<'a> LoneSearch<'a> {
     ghost use Rattle.s66_line.specs.Block.{instrs_of};
     ghost use Rattle.s66_model.specs.Ledger.{best_time};
     ghost use Rattle.s66_model.specs.Coverage.{IsFinished, bound_of};
-    ghost use Rattle.s66_model.specs.declared.limits.TheConstants.{BUDGET_LIMIT};
     ghost use Rattle.s66_ledger.specs.Answers.{answer_of};
-    ghost use Rattle.s66_pool.specs.Workers.{GoesOn, HasTaken};
+    ghost use Rattle.s66_pool.specs.Workers.{LedgerGoesOn, HasTaken};
 
     /// Before the first split: its best order is the best of the source order and two list schedules. Of the options the number of
     /// workers isn't read. `Err` is out of memory.
@@ -56,7 +55,6 @@ impl<'a> LoneSearch<'a> {
         profile: &Profile,
         options: Options,
     ) -> Result<LoneSearch<'a>, AllocError>
-        requires { options.nodes ≤ BUDGET_LIMIT }
         ensures rule { IfOk result (λ s. s.rule ≡ options.rule) }
         ensures problem { IfOk result (λ s. s.problem ≡ record { block = instrs_of block.now; profile = profile.now }) }
         ensures budget { IfOk result (λ s. s.budget ≡ options.nodes) }
@@ -76,7 +74,7 @@ impl<'a> LoneSearch<'a> {
     /// is out of memory, also for a mark: so what it does never depends on how much memory there is. What it did by then stays, and it
     /// may go on.
     pub fn search(&mut self, most: u32, goal: u32) -> Result<(), AllocError>
-        ensures { GoesOn self.old self.new }
+        ensures { LedgerGoesOn self.old self.new }
     {
         self.ledger
             .search(self.alloc, &mut self.walk, &mut self.marks, most, goal)?;
@@ -86,7 +84,7 @@ impl<'a> LoneSearch<'a> {
     /// Offers an order: it is the best from then on if it is faster, and is one of the block under the profile. `Err` is out of memory;
     /// the best order so far stays.
     pub fn offer(&mut self, timed: &Timed) -> Result<(), AllocError>
-        ensures on { GoesOn self.old self.new }
+        ensures on { LedgerGoesOn self.old self.new }
         ensures order { OnOk result (HasTaken self.new timed.now) }
     {
         self.ledger.offer_order(timed.duplicate())?;

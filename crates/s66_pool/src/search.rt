@@ -3,8 +3,7 @@
 
 ghost use Rattle.std.specs.Prelude.{◌≡◌, ◌≤◌, IfOk};
 ghost use Rattle.s66_line.specs.Block.{instrs_of};
-ghost use Rattle.s66_model.specs.declared.limits.TheConstants.{BUDGET_LIMIT, WORKERS_LIMIT};
-ghost use Rattle.s66_pool.specs.Workers.{GoesOn};
+ghost use Rattle.s66_pool.specs.Workers.{LedgerGoesOn};
 
 use crate::crew::work;
 use crate::gate::Gate;
@@ -38,7 +37,7 @@ fn search_by_workers<'a, R: AllocGlobal + Threads + Wait + Sync, G: Gate + Sync>
 ) -> Result<Ledger<'a>, AllocError>
     requires workers { 1 ≤ ledger.workers }
     requires marks { marks.old.problem ≡ record { block = instrs_of block.now; profile = profile.now } }
-    ensures on { IfOk result (λ searched. GoesOn ledger.entry searched) }
+    ensures on { IfOk result (λ searched. LedgerGoesOn ledger.entry searched) }
     ensures marks { marks.new.problem ≡ marks.old.problem }
 {
     if !is_unfinished(&ledger) {
@@ -61,7 +60,6 @@ fn run_alone(
     profile: &Profile,
     options: Options,
 ) -> Result<Answer, AllocError>
-    requires { options.nodes ≤ BUDGET_LIMIT }
     ensures rule { IfOk result (λ a. a.rule ≡ options.rule) }
     ensures problem { IfOk result (λ a. a.problem ≡ record { block = instrs_of block.now; profile = profile.now }) }
     ensures budget { IfOk result (λ a. a.budget ≡ options.nodes) }
@@ -82,8 +80,6 @@ pub fn run<R: AllocGlobal + Threads + Wait + Sync, G: Gate + Sync>(
     options: Options,
     gate: &G,
 ) -> Result<Answer, AllocError>
-    requires workers { (1 ≤ options.workers) × (options.workers ≤ WORKERS_LIMIT) }
-    requires nodes { options.nodes ≤ BUDGET_LIMIT }
     ensures rule { IfOk result (λ a. a.rule ≡ options.rule) }
     ensures problem { IfOk result (λ a. a.problem ≡ record { block = instrs_of block.now; profile = profile.now }) }
     ensures budget { IfOk result (λ a. a.budget ≡ options.nodes) }
