@@ -24,7 +24,7 @@ use Rattle.s66_why.specs.declared.stretch.Conflict.{Conflict}
 use Rattle.s66_why.specs.declared.stretch.Conflict.TheVariants.{First, Second, Third}
 use Rattle.s66_why.specs.Why.{before, before_issue, before_start, decides, first_holder, holder, is_held, lets_go, next_wait, second_holder, slot, steps, steps_from, third_holder, walk}
 use Rattle.s66_why.specs.Forbids.{AreFromOne}
-use Rattle.s66_why.specs.Paths.{AddsUp, AreOnce, GoesOn, IsPath, Leads, LetsGoWith, made_at, unhindered}
+use Rattle.s66_why.specs.Paths.{AddsUp, AreOnce, WaitGoesOn, IsPath, Leads, LetsGoWith, made_at, unhindered}
 use Rattle.s66_why.proofs.Alike.{AreAlike, row-alike}
 use Rattle.s66_why.proofs.AmongParts.{greatest-met}
 use Rattle.s66_why.proofs.Forbidden.{IsHeldBy, IsPlaced, first-held, placed, positive-after, second-held, third-held}
@@ -445,7 +445,7 @@ module _ (b : Problem) where
 
   -- p waited for a holder until `to`, and then for nothing more
   onward : (e : List Point) (p : Point) (link : Link) (t : ℕ) → AllSound b e → AllReach e → Leads link p t → (conflict : Conflict) (from to : ℕ) (h : Holder) → from < to →
-      IsHeldBy b e p conflict from to h → GoesOn conflict link p h.cause to t → to ≤ t → next_wait link e p ≡ held_until h to → HasSteps e p link t
+      IsHeldBy b e p conflict from to h → WaitGoesOn conflict link p h.cause to t → to ≤ t → next_wait link e p ≡ held_until h to → HasSteps e p link t
   onward e p link t sound reach leads conflict from to h waits (q, among, number, kept, lets) goes le next =
       let split = among-split q e among in
       let by : Link = Held (record { cause = h.cause; number = q.number }) in
@@ -478,7 +478,7 @@ module _ (b : Problem) where
 
   -- p waits for nothing before it starts: it stands in line
   in-line : (e : List Point) (p : Point) (h : Holder) (t : ℕ) → IsSound b e p → AllSound b e → AllReach e → Leads (Held h) p t → p.start ≤ t →
-      GoesOn First (Held h) p Ends p.issue t → p.issue ≡ slot e p → next_wait (Held h) e p ≡ line_until p.issue → HasSteps e p (Held h) t
+      WaitGoesOn First (Held h) p Ends p.issue t → p.issue ≡ slot e p → next_wait (Held h) e p ≡ line_until p.issue → HasSteps e p (Held h) t
   in-line e p h t sound all reach leads late goes is next =
       let started : p.issue ≤ t = omega (arith, late, goes.0) in
       elim (line-of b p.issue e p sound all is) [

@@ -1,5 +1,5 @@
 -- To be believed: by which registers, or by memory, an instruction depends on an earlier one, in the words of textbooks.
-use Rattle.std.specs.Prelude.{ℕ, List, [], ◌∷◌, ◌++◌, codes, decimal, filter, flat_map, map}
+use Rattle.std.specs.Prelude.{ℕ, List, [], ◌∷◌, ◌++◌, codes, filter, flat_map, map}
 use Rattle.s66_isa.specs.declared.instr.Memory.{Memory}
 use Rattle.s66_isa.specs.declared.instr.Memory.TheVariants as memory
 use Rattle.s66_isa.specs.Table.{Instr, Reg, has_reg, memory_of, reads_of, results_of}
@@ -8,7 +8,7 @@ use Rattle.s66_why.specs.declared.hazard.Access.TheVariants.{ReadAfterWrite, Wri
 use Rattle.s66_why.specs.declared.hazard.Hazard.{Hazard}
 use Rattle.s66_why.specs.declared.hazard.Place.{Place}
 use Rattle.s66_why.specs.declared.hazard.Place.TheVariants.{Register, Memory as InMemory}
-use Rattle.s66_why.specs.Why.{bank_name}
+use Rattle.s66_why.specs.Why.{register_name}
 
 -- WHICH
 
@@ -45,9 +45,6 @@ abbrev pub access_name : Access → List ℕ
 access_name ReadAfterWrite = codes "RAW"
 access_name WriteAfterRead = codes "WAR"
 access_name WriteAfterWrite = codes "WAW"
-
-abbrev pub register_name : Reg → List ℕ
-register_name r = bank_name r.bank ++ decimal r.digit
 
 abbrev pub place_name : Place → List ℕ
 place_name (Register r) = register_name r

@@ -43,22 +43,22 @@ Leads (Held h) p t = (p.number ≡ h.number) × (lets_go h.cause t p ≡ true)
 Leads InLine p t = t ≡ p.issue
 
 -- once p has waited to issue, to start or for a reader until `from`, it waits for nothing more until t, when a link leads to it
-abbrev pub GoesOn : Conflict → Link → Point → Cause → (from t : ℕ) → Type 0
-GoesOn First (Held h) p cause from t = (p.start ≡ p.issue) × (lets_go h.cause t (unhindered p) ≡ true)
-GoesOn Second (Held h) p cause from t = lets_go h.cause t (unhindered p) ≡ true
-GoesOn Third (Held h) p cause from t = LetsGoWith h.cause p cause from t
-GoesOn First InLine p cause from t = t ≡ from
-GoesOn conflict InLine p cause from t = ⊥
+abbrev pub WaitGoesOn : Conflict → Link → Point → Cause → (from t : ℕ) → Type 0
+WaitGoesOn First (Held h) p cause from t = (p.start ≡ p.issue) × (lets_go h.cause t (unhindered p) ≡ true)
+WaitGoesOn Second (Held h) p cause from t = lets_go h.cause t (unhindered p) ≡ true
+WaitGoesOn Third (Held h) p cause from t = LetsGoWith h.cause p cause from t
+WaitGoesOn First InLine p cause from t = t ≡ from
+WaitGoesOn conflict InLine p cause from t = ⊥
 
 -- p waits for q, which stands among the points s after those of e, until `to`, and for nothing more until t
 abbrev pub WaitsFor : Problem → List Point → Point → Link → (to t : ℕ) → Cause → Point → List Point → Type 0
 WaitsFor b s p link to t cause q e =
     StandsAfter s q e
-    × ((conflict : Conflict) × (from : ℕ) × (from < to) × IsKeptBack b s p conflict from to cause q × GoesOn conflict link p cause to t)
+    × ((conflict : Conflict) × (from : ℕ) × (from < to) × IsKeptBack b s p conflict from to cause q × WaitGoesOn conflict link p cause to t)
 
 -- p issues in its slot, and waits for nothing until t
 abbrev pub WaitsForNothing : List Point → Point → Link → ℕ → Type 0
-WaitsForNothing s p link t = (p.issue ≡ slot s p) × GoesOn First link p Ends p.issue t
+WaitsForNothing s p link t = (p.issue ≡ slot s p) × WaitGoesOn First link p Ends p.issue t
 
 -- p issues as many minor cycles after q as it stands parcels behind it
 abbrev pub IsInLine : List Point → Point → Point → List Point → Type 0

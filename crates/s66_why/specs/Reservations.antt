@@ -15,9 +15,9 @@ use Rattle.s66_why.specs.declared.row.TheConstants.{NAME_ROOM}
 use Rattle.s66_why.specs.declared.units_chart.TheConstants.{KIND_ROOM}
 use Rattle.s66_why.specs.declared.work.Work.{Work}
 use Rattle.s66_why.specs.Chart.{cycles_of}
-use Rattle.s66_why.specs.Hazards.{register_name}
 use Rattle.s66_why.specs.TextChart.{chart_in_places, in_places, text_width}
 use Rattle.s66_why.specs.Units.{left_from, taken_from, works, works_of_kind}
+use Rattle.s66_why.specs.Why.{register_name}
 
 -- WHEN
 

@@ -182,8 +182,11 @@ bank_name A = codes "A"
 bank_name B = codes "B"
 bank_name X = codes "X"
 
+abbrev pub register_name : Reg → List ℕ
+register_name r = bank_name r.bank ++ decimal r.digit
+
 abbrev pub register_text : Reg → List ℕ
-register_text r = codes " REGISTER " ++ bank_name r.bank ++ decimal r.digit
+register_text r = codes " REGISTER " ++ register_name r
 
 abbrev pub cause_text : Cause → List ℕ
 cause_text (Writes r) = register_text r

@@ -3,12 +3,11 @@
 
 ghost use Rattle.std.specs.Prelude.{◌≡◌, ◌++◌, OnOk, codes, flat_map, map, option_to_list};
 ghost use Rattle.s66_isa.specs.Table.{Reg as RegOf};
-ghost use Rattle.s66_why.specs.Hazards.{access_name, accesses_of_memory, common, hazard_text, hazards, hazards_text, memory_hazards, place_name, register_name};
+ghost use Rattle.s66_why.specs.Hazards.{access_name, accesses_of_memory, common, hazard_text, hazards, hazards_text, memory_hazards, place_name};
 ghost use Rattle.s66_why.specs.declared.hazard.Hazard.{Hazard as HazardOf};
 ghost use Rattle.s66_why.specs.declared.hazard.Place.TheVariants.{Register};
 
-use crate::text::bank_name;
-use s66_device::push_field;
+use crate::text::push_register_name;
 use s66_isa::{Instr, Memory, Reg, has_register};
 use std::alloc::AllocError;
 
@@ -126,13 +125,6 @@ fn access_name(access: Access) -> &'static [u8]
         Access::WriteAfterRead => b"WAR",
         Access::WriteAfterWrite => b"WAW",
     }
-}
-
-/// Appends the name of a register. `Err` is out of memory.
-pub fn push_register_name(out: &mut Vec<u8>, register: Reg) -> Result<(), AllocError>
-    ensures { OnOk result (out.new.items ≡ out.old.items ++ register_name register) }
-{
-    push_field(out, bank_name(register.bank()), register.digit() as usize)
 }
 
 /// The name of a place.

@@ -32,7 +32,7 @@ pub use examples::{
     cause_examples, chart_examples, equal_cause_examples, hazard_examples, path_example,
     text_chart_example, text_example, units_chart_example,
 };
-pub use hazard::{Access, Hazard, Place, push_hazards, push_hazards_text, push_register_name};
+pub use hazard::{Access, Hazard, Place, push_hazards, push_hazards_text};
 pub use laws::{cause_law, hazard_law, path_law};
 pub use lost::Lost;
 pub use path::{Step, path_of, steps_of};
@@ -41,7 +41,9 @@ pub use places::{push_blanks, push_in_places, text_width};
 pub use points::points_of;
 pub use reservation::{Reservation, register_reservations};
 pub use stretch::{Conflict, Stretch};
-pub use text::{bank_name, conflict_name, push_in_three, push_why};
+pub use text::{
+    bank_name, conflict_name, push_in_three, push_on_right, push_register_name, push_why,
+};
 pub use units::{left, taken, works_of_kind};
 pub use units_chart::push_units_chart;
 pub use waits::waits_of;

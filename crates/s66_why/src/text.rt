@@ -6,7 +6,7 @@ ghost use Rattle.s66_isa.specs.declared.limits.TheConstants.{BLOCK_LIMIT};
 ghost use Rattle.s66_line.specs.Block.{instrs_of};
 ghost use Rattle.s66_why.specs.TextChart.{text_width};
 ghost use Rattle.s66_why.specs.Numbers.{AreOf, IsOf, StepsAreOf};
-ghost use Rattle.s66_why.specs.Why.{bank_name, register_text, cause_text, conflict_name, in_three, lost, on_right, path_line, path_lines, step_row, steps_line, stretch_line, stretch_text, stretches, text_after_number, text_at_end, time_row, why_text};
+ghost use Rattle.s66_why.specs.Why.{bank_name, register_name, register_text, cause_text, conflict_name, in_three, lost, on_right, path_line, path_lines, step_row, steps_line, stretch_line, stretch_text, stretches, text_after_number, text_at_end, time_row, why_text};
 ghost use Rattle.s66_why.specs.Sums.{sum_of, sums_line};
 ghost use Rattle.s66_why.specs.declared.path.Step.{Step as StepOf};
 ghost use Rattle.s66_why.specs.declared.stretch.Conflict.{Conflict as ConflictOf};
@@ -48,12 +48,19 @@ pub fn conflict_name(conflict: Conflict) -> &'static [u8]
     }
 }
 
+/// Appends the name of a register. `Err` is out of memory.
+pub fn push_register_name(out: &mut Vec<u8>, register: Reg) -> Result<(), AllocError>
+    ensures { OnOk result (out.new.items ≡ out.old.items ++ register_name register) }
+{
+    push_field(out, bank_name(register.bank()), register.digit() as usize)
+}
+
 /// A register that is waited for.
 fn push_register(out: &mut Vec<u8>, register: Reg) -> Result<(), AllocError>
     ensures { OnOk result (out.new.items ≡ out.old.items ++ register_text register) }
 {
     out.extend_from_slice(b" REGISTER ")?;
-    push_field(out, bank_name(register.bank()), register.digit() as usize)
+    push_register_name(out, register)
 }
 
 /// What is waited for.
@@ -71,8 +78,8 @@ fn push_cause(out: &mut Vec<u8>, cause: &Cause) -> Result<(), AllocError>
     }
 }
 
-/// A number, right in so many places.
-fn push_on_right(out: &mut Vec<u8>, places: usize, number: usize) -> Result<(), AllocError>
+/// Appends a number, right in so many places. `Err` is out of memory.
+pub fn push_on_right(out: &mut Vec<u8>, places: usize, number: usize) -> Result<(), AllocError>
     ensures { OnOk result (out.new.items ≡ out.old.items ++ on_right places number) }
 {
     let mut buffer = Buffer::new();

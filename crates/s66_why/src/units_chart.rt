@@ -10,12 +10,12 @@ ghost use Rattle.s66_model.specs.Timing.{points_of};
 ghost use Rattle.s66_why.specs.Reservations.{cell, cells, copy_rows, kind_rows, register_head, register_row, register_rows, reservation_rows, unit_head, unit_row, units_chart, units_width};
 
 use crate::chart::push_chart_in_places;
-use crate::hazard::push_register_name;
 use crate::placed::PlacedInstr;
 use crate::places::{push_blanks, push_in_places, text_width};
 use crate::points::points_of;
 use crate::reservation::{Reservation, cell, register_reservations, unit_reservations};
 use crate::row::NAME_ROOM;
+use crate::text::push_register_name;
 use crate::units::{left, taken, works_of_kind};
 use crate::work::{Work, works_of};
 use arrayvec::ArrayVec;
