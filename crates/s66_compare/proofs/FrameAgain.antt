@@ -22,7 +22,7 @@ use Rattle.s66_source.specs.Replaced.{AreGiven, line_text, others, printed_in, r
 use Rattle.s66_source.specs.Source.{Line, begins_block, block_of, blocks_of, classed_lines, classes_from, entry_of, instructions, parts_of, put_before, refusal, source_of}
 use Rattle.s66_source.specs.declared.columns.Columns.{Columns}
 use Rattle.s66_source.proofs.LineLaw.{no_refusal}
-use Rattle.s66_source.proofs.LineTexts.{AreTexts, AreTold, IsTold, behind, behind-begins, behind-put, chosen_text, count_after, first-given, instruction-text, left, left-begins, left-put, none-left, other-text, others-given, parts_by, parts_from, plain-text, told-source}
+use Rattle.s66_source.proofs.LineTexts.{AreTexts, AreTold, IsTold, chosen_text, count_after, first-given, instruction-text, none-left, other-text, others-given, parts_by, parts_from, plain-text, told-source}
 use Rattle.s66_source.proofs.PartsLaw.{parts}
 use Rattle.s66_source.proofs.PrintedLines.{accepted-is, ordered-classed}
 use Rattle.s66_source.proofs.ReadAgain.{EndsTexts, IsLeft, complete-others, left-by, lines_after, next-same, none-refused, parts_after, rest-taken, stays-comment, within-others}
@@ -30,7 +30,7 @@ use Rattle.s66_source.proofs.ReadBlock.{quiet-block}
 use Rattle.s66_source.proofs.ReadComments.{AreLinesOfSource, lines-of_source}
 use Rattle.s66_source.proofs.ReadLine.{IsLabel}
 use Rattle.s66_source.proofs.ReadStanding.{IsQuiet, flagged_at}
-use Rattle.s66_source.proofs.ReaderBlocks.{fresh, from_class, full-index, next-index}
+use Rattle.s66_source.proofs.ReaderBlocks.{fresh, from_class, full-index, next-index, behind, behind-begins, behind-put, left, left-begins, left-put}
 use Rattle.s66_source.proofs.Runs.{Within, begun, block-new, block-same, has_run, none-ahead, none-behind, run-skip, some-ahead, within-more, within-new, within-same}
 use Rattle.s66_source.proofs.SoundBlocks.{AreSoundBlocks, all-texts, located-label, sound-source}
 use Rattle.s66_source.proofs.SourceAgain.{redefined-again}

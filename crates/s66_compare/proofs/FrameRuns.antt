@@ -13,9 +13,9 @@ use Rattle.s66_source.specs.LeftAlone.{Flagged, Reading, class_at, flagged_lines
 use Rattle.s66_source.specs.Source.{Line, begins_block, block_of, blocks_of, classed_lines, classes_from, instructions, parts_of, put_before, refusal, source_of}
 use Rattle.s66_source.proofs.LineLaw.{no_refusal}
 use Rattle.s66_source.proofs.PrintedLines.{ordered-classed}
-use Rattle.s66_source.proofs.LineTexts.{AllFrom, all-from, behind, behind-begins, behind-put, left, parts_by, parts_from}
+use Rattle.s66_source.proofs.LineTexts.{AllFrom, all-from, parts_by, parts_from}
 use Rattle.s66_source.proofs.ReadAgain.{none-refused, rest-taken}
-use Rattle.s66_source.proofs.ReaderBlocks.{fresh, from_class}
+use Rattle.s66_source.proofs.ReaderBlocks.{fresh, from_class, behind, behind-begins, behind-put, left}
 use Rattle.s66_source.proofs.Runs.{Within, begun, block-new, block-same, has_run, none-ahead, none-behind, run-skip, some-ahead, within-more, within-new, within-same}
 use Rattle.s66_compare.specs.Difference.{Shape, shape_of, shapes}
 

@@ -15,8 +15,8 @@ use Rattle.s66_model.proofs.LegalOrders.{depends-from, depends-lt, each-needs, h
 use Rattle.s66_model.proofs.Remaining.{order-has}
 use Rattle.s66_compare.specs.Pairing.{first_left, is_open, paired, partner, partners, texts_of}
 use Rattle.s66_compare.specs.Verdict.{by_order, first_missing, is_kept, is_missing, kept_verdict, verdict_of}
-use Rattle.s66_compare.specs.declared.verdict.Verdict.{Verdict}
-use Rattle.s66_compare.specs.declared.verdict.Verdict.TheVariants.{NotLegal, OtherNew, OtherOld, Reordered, Same}
+use Rattle.s66_compare.specs.declared.verdict.BlockVerdict.{BlockVerdict}
+use Rattle.s66_compare.specs.declared.verdict.BlockVerdict.TheVariants.{NotLegal, OtherNew, OtherOld, Reordered, Same}
 use Rattle.s66_compare.proofs.Firsts.{first_passes, none_passes}
 use Rattle.s66_compare.proofs.Legal.{length-texts, needed}
 use Rattle.s66_compare.proofs.Meanings.{IsSpelled, instr-text}
@@ -304,7 +304,7 @@ nothing-missing block before n ready =
     none-first (is_missing block before n) (length block) 1
     (λ a least most. not-missing (depends block a n) (has a before) (λ is. needs-each block before n n parts.3 a least (let lt = depends-lt block a n is in omega (arith, lt)) is))
 
-order-stays : (block : List Instr) (kept : Verdict) (before ns : List ℕ) → GoesOn block before ns → by_order block kept before ns ≡ kept
+order-stays : (block : List Instr) (kept : BlockVerdict) (before ns : List ℕ) → GoesOn block before ns → by_order block kept before ns ≡ kept
 order-stays block kept before [] goes = refl
 order-stays block kept before (n ∷ ns) goes =
     ap (λ k. if k == 0 then by_order block kept (before ++ n ∷ []) ns else NotLegal n k) (nothing-missing block before n goes.0) ∙ order-stays block kept (before ++ n ∷ []) ns goes.1
@@ -320,7 +320,7 @@ kept-is false = refl
 by-pairs : (old new : Block) (ns : List ℕ) → nat_lt (length ns) (length (instrs_of new)) ≡ false → first_left old ns ≡ 0 → by_order (instrs_of old) (kept_verdict (instrs_of old) ns) [] ns ≡ kept_verdict (instrs_of old) ns →
     is_kept (verdict_of old new ns) ≡ true
 by-pairs old new ns enough none kept =
-    let order : Verdict = by_order (instrs_of old) (kept_verdict (instrs_of old) ns) [] ns in
+    let order : BlockVerdict = by_order (instrs_of old) (kept_verdict (instrs_of old) ns) [] ns in
     ap (λ few. is_kept (if few then OtherNew (line_of new (length ns + 1)) else (if first_left old ns == 0 then order else OtherOld (line_of old (first_left old ns))))) enough
     ∙ ap (λ k. is_kept (if k == 0 then order else OtherOld (line_of old k))) none ∙ ap is_kept kept ∙ kept-is (bytes_eq ns (numbers (instrs_of old)))
 

@@ -15,8 +15,8 @@ use Rattle.s66_model.proofs.LegalOrders.{depends-from, depends-lt, each-needs, r
 use Rattle.s66_model.proofs.Remaining.{legal-parts}
 use Rattle.s66_compare.specs.Pairing.{AreWithin, first_left, is_open, paired, partner, partners, texts_of}
 use Rattle.s66_compare.specs.Verdict.{by_order, first_missing, is_kept, is_missing, kept_verdict, verdict_of}
-use Rattle.s66_compare.specs.declared.verdict.Verdict.{Verdict}
-use Rattle.s66_compare.specs.declared.verdict.Verdict.TheVariants.{NotLegal, OtherNew, OtherOld}
+use Rattle.s66_compare.specs.declared.verdict.BlockVerdict.{BlockVerdict}
+use Rattle.s66_compare.specs.declared.verdict.BlockVerdict.TheVariants.{NotLegal, OtherNew, OtherOld}
 use Rattle.s66_compare.proofs.Firsts.{first_passes, none_passes}
 
 -- NUMBERS OF THE BLOCK, each for the first time, after those before
@@ -94,7 +94,7 @@ met block before n most none a is =
 not-kept : (n a : ℕ) → is_kept (NotLegal n a) ≡ true → ⊥
 not-kept n a h = true≢false (sym h)
 
-goes : (block : List Instr) (kept : Verdict) (before ns : List ℕ) → Fresh (length block) before ns → is_kept (by_order block kept before ns) ≡ true → GoesOn block before ns
+goes : (block : List Instr) (kept : BlockVerdict) (before ns : List ℕ) → Fresh (length block) before ns → is_kept (by_order block kept before ns) ≡ true → GoesOn block before ns
 goes block kept before [] fresh is = tt
 goes block kept before (n ∷ ns) fresh is =
     elim (cases_Bool (first_missing block before n == 0)) [

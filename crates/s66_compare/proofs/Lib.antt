@@ -1,4 +1,5 @@
 pub mod Firsts
+pub mod Missing
 pub mod Pairs
 pub mod RowSteps
 pub mod RowBlocks

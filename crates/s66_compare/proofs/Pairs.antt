@@ -8,8 +8,8 @@ use Rattle.s66_isa.specs.declared.instr.Instr.{Instr}
 use Rattle.s66_line.specs.Block.{Block, instrs_of, whole_text_of}
 use Rattle.s66_compare.specs.Pairing.{AreWithin, partner, partners}
 use Rattle.s66_compare.specs.Verdict.{by_order, first_missing}
-use Rattle.s66_compare.specs.declared.verdict.Verdict.{Verdict}
-use Rattle.s66_compare.specs.declared.verdict.Verdict.TheVariants.{NotLegal}
+use Rattle.s66_compare.specs.declared.verdict.BlockVerdict.{BlockVerdict}
+use Rattle.s66_compare.specs.declared.verdict.BlockVerdict.TheVariants.{NotLegal}
 use Rattle.s66_compare.proofs.Firsts.{rising_none}
 use Rattle.s66_isa.proofs.Lists.{rising-next}
 
@@ -44,16 +44,16 @@ partners_end old new taken i past = ap (λ ns. partners old taken (map (whole_te
 
 -- ONE NUMBER after the other
 
-pub order_next : (block : List Instr) (kept : Verdict) (ns : List ℕ) (i d : ℕ) → i < length ns → first_missing block (take i ns) (get_or ns i d) ≡ 0 →
+pub order_next : (block : List Instr) (kept : BlockVerdict) (ns : List ℕ) (i d : ℕ) → i < length ns → first_missing block (take i ns) (get_or ns i d) ≡ 0 →
     by_order block kept (take i ns) (drop i ns) ≡ by_order block kept (take (i + 1) ns) (drop (i + 1) ns)
 order_next block kept ns i d below none =
     ap (by_order block kept (take i ns)) (drop_more ns i d below) ∙ rw none (ap (λ before. by_order block kept before (drop (i + 1) ns)) (sym (take_more ns i d below)))
 
-pub order_stop : (block : List Instr) (kept : Verdict) (ns : List ℕ) (i d a : ℕ) → i < length ns → a ≡ first_missing block (take i ns) (get_or ns i d) → 1 ≤ a →
+pub order_stop : (block : List Instr) (kept : BlockVerdict) (ns : List ℕ) (i d a : ℕ) → i < length ns → a ≡ first_missing block (take i ns) (get_or ns i d) → 1 ≤ a →
     by_order block kept (take i ns) (drop i ns) ≡ NotLegal (get_or ns i d) a
 order_stop block kept ns i d a below is some =
     let other : (first_missing block (take i ns) (get_or ns i d) == 0) ≡ false = ne_eqb _ 0 (λ none. absurd (omega (arith, is, none, some))) in
     ap (by_order block kept (take i ns)) (drop_more ns i d below) ∙ rw other (ap (NotLegal (get_or ns i d)) (sym is))
 
-pub order_end : (block : List Instr) (kept : Verdict) (ns : List ℕ) (i : ℕ) → length ns ≤ i → by_order block kept (take i ns) (drop i ns) ≡ kept
+pub order_end : (block : List Instr) (kept : BlockVerdict) (ns : List ℕ) (i : ℕ) → length ns ≤ i → by_order block kept (take i ns) (drop i ns) ≡ kept
 order_end block kept ns i past = ap (by_order block kept (take i ns)) (drop_all i ns past)

@@ -7,7 +7,7 @@ use Rattle.s66_isa.specs.declared.instr.Memory.{Memory}
 use Rattle.s66_isa.specs.declared.instr.Memory.TheVariants as memory
 use Rattle.s66_isa.specs.declared.reg.Reg.{Reg}
 use Rattle.s66_line.specs.Block.{Block, instrs_of, line_of, whole_text_of}
-use Rattle.s66_why.specs.Why.{bank_name}
+use Rattle.s66_why.specs.Why.{register_name}
 
 -- WHY an instruction depends on one before it
 
@@ -15,9 +15,6 @@ use Rattle.s66_why.specs.Why.{bank_name}
 abbrev pub first_shared : List Reg → List Reg → Option Reg
 first_shared [] ss = None
 first_shared (r ∷ rs) ss = if has_reg r ss then Some r else first_shared rs ss
-
-abbrev pub register_name : Reg → List ℕ
-register_name r = bank_name r.bank ++ decimal r.digit
 
 -- a register, if there is one, and the kind of dependence; else what else is the reason
 abbrev pub by_register : Option Reg → (kind other : List ℕ) → List ℕ

@@ -13,8 +13,8 @@ use Rattle.s66_compare.specs.declared.difference.Difference.{Difference}
 use Rattle.s66_compare.specs.declared.rows.Row.{Row}
 use Rattle.s66_compare.specs.declared.rows.Row.TheVariants.{Both, NewAlone, OldAlone}
 use Rattle.s66_compare.specs.declared.rows.Side.{Side}
-use Rattle.s66_compare.specs.declared.verdict.Verdict.{Verdict}
-use Rattle.s66_compare.specs.declared.verdict.Verdict.TheVariants.{NotLegal, OtherNew, OtherOld, Reordered, Same}
+use Rattle.s66_compare.specs.declared.verdict.BlockVerdict.{BlockVerdict}
+use Rattle.s66_compare.specs.declared.verdict.BlockVerdict.TheVariants.{NotLegal, OtherNew, OtherOld, Reordered, Same}
 
 -- BLOCKS
 
@@ -23,7 +23,7 @@ abbrev pub not_legal_text : (texts : Bool) (new : Option Block) (order : List �
 not_legal_text true (Some new) order number missing = broken_text new order number missing
 not_legal_text texts new order number missing = codes " NOT LEGAL " ++ decimal number ++ codes " AFTER " ++ decimal missing
 
-abbrev pub verdict_text : (texts : Bool) (new : Option Block) → Verdict → (order : List ℕ) → List ℕ
+abbrev pub verdict_text : (texts : Bool) (new : Option Block) → BlockVerdict → (order : List ℕ) → List ℕ
 verdict_text texts new Same order = codes " SAME"
 verdict_text texts new Reordered order = codes " ORDER" ++ after_blanks order
 verdict_text texts new (NotLegal number missing) order = not_legal_text texts new order number missing

@@ -2,13 +2,13 @@
 
 ghost use Rattle.std.specs.Prelude.{◌≡◌, ◌≤◌, ◌<◌, ◌+◌, ◌-◌, ◌==◌, ◌++◌, OnOk, get_or, length};
 ghost use Rattle.s66_line.specs.Block.{instrs_of};
-ghost use Rattle.s66_why.specs.Why.{bank_name};
-ghost use Rattle.s66_compare.specs.Broken.{broken_text, first_shared, memory_reason, access, broken_at, instruction_text, pair_text, place_of, reason, register_name};
+ghost use Rattle.s66_why.specs.Why.{register_name};
+ghost use Rattle.s66_compare.specs.Broken.{broken_text, first_shared, memory_reason, access, broken_at, instruction_text, pair_text, place_of, reason};
 
 use s66_device::push_field;
 use s66_isa::{Instr, Memory, Reg, has_register};
 use s66_line::Block;
-use s66_why::bank_name;
+use s66_why::push_register_name;
 use std::alloc::AllocError;
 
 /// The first of these registers that is among others.
@@ -27,7 +27,7 @@ fn first_shared(registers: &[Reg], others: &[Reg]) -> Option<Reg>
 fn push_register(out: &mut Vec<u8>, register: Reg, kind: &[u8]) -> Result<(), AllocError>
     ensures { OnOk result (out.new.items ≡ out.old.items ++ (register_name register ++ kind.now)) }
 {
-    push_field(out, bank_name(register.bank()), register.digit() as usize)?;
+    push_register_name(out, register)?;
     out.extend_from_slice(kind)
 }
 

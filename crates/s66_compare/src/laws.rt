@@ -11,7 +11,7 @@ ghost use Rattle.s66_compare.specs.Difference.{DifferFirst, first_difference, sh
 ghost use Rattle.s66_compare.specs.Meant.{KeepsSource};
 ghost use Rattle.s66_compare.specs.Verdict.{judged};
 ghost use Rattle.s66_compare.specs.declared.difference.Difference.{Difference};
-ghost use Rattle.s66_compare.specs.declared.verdict.Verdict.TheVariants.{NotLegal, OtherNew, OtherOld, Reordered, Same};
+ghost use Rattle.s66_compare.specs.declared.verdict.BlockVerdict.TheVariants.{NotLegal, OtherNew, OtherOld, Reordered, Same};
 
 /// If the new source is accepted, each of its blocks has the instructions of the old one, with all characters of their operands, in a
 /// legal order, and so leaves the same in all registers and in memory; and what stands beside the blocks is the same. Comments and

@@ -21,4 +21,4 @@ pub use difference::{Difference, difference_of};
 pub use laws::{difference_law, frame_examples, same_meaning_law, verdict_examples};
 pub use rows::{Row, Side, aligned_rows};
 pub use text::{push_ending, push_row};
-pub use verdict::{Judged, Verdict};
+pub use verdict::{BlockVerdict, Judged};

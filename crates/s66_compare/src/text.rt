@@ -10,7 +10,7 @@ ghost use Rattle.s66_compare.specs.Rows.{has_new, has_old, is_legal, new_time, o
 use crate::broken::push_broken;
 use crate::difference::Difference;
 use crate::rows::{Row, Side};
-use crate::verdict::{Judged, Verdict};
+use crate::verdict::{BlockVerdict, Judged};
 use s66_device::push_field;
 use s66_line::Block;
 use std::alloc::{AllocError, Global};
@@ -76,14 +76,14 @@ fn push_verdict(
         verdict_text text (slice_get new.now place) judged.now.verdict judged.now.order) }
 {
     match judged.verdict {
-        Verdict::Same => out.extend_from_slice(b" SAME"),
-        Verdict::Reordered => push_order(out, judged.order.as_slice()),
-        Verdict::NotLegal { number, missing } => {
+        BlockVerdict::Same => out.extend_from_slice(b" SAME"),
+        BlockVerdict::Reordered => push_order(out, judged.order.as_slice()),
+        BlockVerdict::NotLegal { number, missing } => {
             let order = judged.order.as_slice();
             push_not_legal(out, text, new, place, order, number, missing)
         }
-        Verdict::OtherNew { line } => push_field(out, b" OTHER CODE NEW LINE ", line as usize),
-        Verdict::OtherOld { line } => push_field(out, b" OTHER CODE LINE ", line as usize),
+        BlockVerdict::OtherNew { line } => push_field(out, b" OTHER CODE NEW LINE ", line as usize),
+        BlockVerdict::OtherOld { line } => push_field(out, b" OTHER CODE LINE ", line as usize),
     }
 }
 

@@ -1,21 +1,21 @@
 //! What a new block is beside an old one: the same, in another legal order, in one that isn't legal, or with other instructions.
 
-ghost use Rattle.std.specs.Prelude.{◌≡◌, ◌≤◌, [], IfSome, IfNone, length};
+ghost use Rattle.std.specs.Prelude.{◌≡◌, [], length};
 ghost use Rattle.s66_isa.specs.declared.limits.TheConstants.{BLOCK_LIMIT};
 ghost use Rattle.s66_line.specs.Block.{instrs_of};
 ghost use Rattle.s66_compare.specs.Pairing.{AreWithin};
-ghost use Rattle.s66_compare.specs.Verdict.{by_order, first_missing, is_missing, judged, kept_verdict, verdict_of};
+ghost use Rattle.s66_compare.specs.Verdict.{by_order, judged, kept_verdict, verdict_of};
 
-use crate::pairing::{first_left, is_among, paired};
+use crate::pairing::{first_left, paired};
 use arrayvec::ArrayVec;
-use s66_isa::BLOCK_LIMIT;
+use s66_isa::{BLOCK_LIMIT, Set};
 use s66_line::Block;
-use s66_time::{Order, depends};
+use s66_time::{Dependences, Order};
 use std::marker::Model;
 
 /// What a new block is beside an old one. Numbers are those of the old one's instructions.
 #[derive(Clone, Copy)]
-pub enum Verdict {
+pub enum BlockVerdict {
     /// It is the old one.
     Same,
     /// It is the old one in another legal order.
@@ -28,7 +28,7 @@ pub enum Verdict {
     OtherOld { line: u32 },
 }
 
-impl Verdict {
+impl BlockVerdict {
     ghost use Rattle.std.specs.Prelude.{◌≡◌};
     ghost use Rattle.s66_compare.specs.Verdict.{is_kept};
 
@@ -36,14 +36,14 @@ impl Verdict {
     pub fn is_kept(&self) -> bool
         ensures { result ≡ is_kept self.now }
     {
-        matches!(self, Verdict::Same | Verdict::Reordered)
+        matches!(self, BlockVerdict::Same | BlockVerdict::Reordered)
     }
 }
 
 /// A verdict, and the numbers of the old block's instructions in the order of the new one.
 #[derive(Drop)]
 pub struct Judged {
-    pub verdict: Verdict,
+    pub verdict: BlockVerdict,
     pub order: ArrayVec<u8, BLOCK_LIMIT>,
 }
 
@@ -78,72 +78,53 @@ impl Judged {
     }
 }
 
-/// Whether the instruction of a number depends on another, which isn't among those before it.
-fn is_missing(old: &Block, before: &[u8], number: u8, other: u8) -> bool
-    requires number { (1 ≤ number) × (number ≤ length (instrs_of old.now)) }
-    requires other { (1 ≤ other) × (other ≤ length (instrs_of old.now)) }
-    ensures { result ≡ is_missing (instrs_of old.now) before.now number other }
-{
-    depends(old, other, number) && !is_among(other, before)
-}
-
-/// The first instruction on which that of a number depends, and which isn't among those before it.
-#[tactic(auto, using(crate::proofs::Firsts::first_here, crate::proofs::Firsts::first_later, crate::proofs::Firsts::first_none))]
-fn first_missing(old: &Block, before: &[u8], number: u8) -> Option<u8>
-    requires { (1 ≤ number) × (number ≤ length (instrs_of old.now)) }
-    ensures some { IfSome result (λ a. a ≡ first_missing (instrs_of old.now) before.now number) }
-    ensures range { IfSome result (λ a. 1 ≤ a) }
-    ensures none { IfNone result (first_missing (instrs_of old.now) before.now number ≡ 0) }
-{
-    for position in 0..old.count() {
-        let other = (position + 1) as u8;
-        if is_missing(old, before, number, other) {
-            return Some(other);
-        }
-    }
-    None
-}
-
 /// An order that keeps every dependence.
-fn kept_verdict(old: &Block, order: &[u8]) -> Verdict
+fn kept_verdict(old: &Block, order: &[u8]) -> BlockVerdict
     ensures { result ≡ kept_verdict (instrs_of old.now) order.now }
 {
     if order == Order::source(old).numbers() {
-        Verdict::Same
+        BlockVerdict::Same
     } else {
-        Verdict::Reordered
+        BlockVerdict::Reordered
     }
 }
 
-/// Whether an order keeps every dependence, or where it doesn't.
-#[tactic(auto, using(crate::proofs::Pairs::order_next, crate::proofs::Pairs::order_stop, crate::proofs::Pairs::order_end, crate::proofs::Pairs::within_at))]
-fn by_order(old: &Block, order: &[u8]) -> Verdict
+/// Whether an order keeps every dependence, or where it doesn't. It looks at each two instructions once, and then at a word for each
+/// number.
+#[tactic(auto, using(crate::proofs::Pairs::order_end, crate::proofs::Pairs::within_at))]
+fn by_order(old: &Block, order: &[u8]) -> BlockVerdict
     requires { AreWithin (length (instrs_of old.now)) order.now }
     ensures { result ≡ by_order (instrs_of old.now) (kept_verdict (instrs_of old.now) order.now) [] order.now }
 {
-    for (position, number) in order.iter().enumerate() {
-        if let Some(missing) = first_missing(old, &order[..position], *number) {
-            return Verdict::NotLegal {
+    // so a set has room for its numbers
+    prove!(old.count() <= BLOCK_LIMIT);
+    let dependences = Dependences::of(old);
+    let mut before = Set::empty();
+    for number in order {
+        let mut missing = dependences.needs(*number).without(&before);
+        if let Some(first) = missing.pop_first() {
+            return BlockVerdict::NotLegal {
                 number: *number,
-                missing,
+                missing: first,
             };
         }
+        before = before.with(*number);
     }
     kept_verdict(old, order)
 }
 
 /// The verdict on a new block, whose instructions are those of the old one in this order as far as the old one has them.
-fn verdict_of(old: &Block, new: &Block, order: &[u8]) -> Verdict
+fn verdict_of(old: &Block, new: &Block, order: &[u8]) -> BlockVerdict
     requires { AreWithin (length (instrs_of old.now)) order.now }
     ensures { result ≡ verdict_of old.now new.now order.now }
 {
     if order.len() < new.count() {
-        return Verdict::OtherNew {
+        return BlockVerdict::OtherNew {
             line: new.line(order.len() + 1),
         };
     }
     match first_left(old, order) {
-        Some(number) => Verdict::OtherOld {
+        Some(number) => BlockVerdict::OtherOld {
             line: old.line(number as usize),
         },
         None => by_order(old, order),
