@@ -10,9 +10,10 @@ use Rattle.s66_model.proofs.PointTimes.{points_after-append}
 use Rattle.s66_time.specs.TimedOrder.{TimedOrder, point_at}
 use Rattle.s66_time.proofs.Positions.{point-at, points-push}
 use Rattle.s66_why.specs.declared.stretch.Stretch.{Stretch}
+use Rattle.s66_why.specs.Chart.{cycles_of}
 use Rattle.s66_why.specs.Why.{conflict_name, stretches_at}
 use Rattle.s66_views.specs.declared.page.row.Shown.TheVariants.{Bar}
-use Rattle.s66_views.specs.Page.{all_kind_rows, all_rows, bar, bar_start, cycles_of, instruction_row, instruction_rows, on_path, order_head, order_text, register_rows, row_head, row_marks, row_words, shown_as, span, stretch_bar, stretch_title, why_below, work_bar, work_title}
+use Rattle.s66_views.specs.Page.{all_kind_rows, all_rows, bar, bar_start, instruction_row, instruction_rows, on_path, order_head, order_text, register_rows, row_head, row_marks, row_words, shown_as, span, stretch_bar, stretch_title, why_below, work_bar, work_title}
 use Rattle.s66_why.specs.Units.{work, works}
 use Rattle.s66_views.specs.Rows.{Holds, place_of_bar, title_of_times}
 

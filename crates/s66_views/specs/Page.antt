@@ -14,7 +14,7 @@ use Rattle.s66_isa.specs.declared.instr.Kind.TheVariants.{Boolean, Shift, Add, L
 use Rattle.s66_command.specs.Changes.{changes, changes_text}
 use Rattle.s66_command.specs.declared.changes.Change.{Change}
 use Rattle.s66_line.specs.Block.{Block, bytes_of, instrs_of, line_of}
-use Rattle.s66_model.specs.Timing.{Point, points_of, total_of}
+use Rattle.s66_model.specs.Timing.{Point, points_of}
 use Rattle.s66_time.specs.TimedOrder.{TimedOrder}
 use Rattle.s66_why.specs.declared.cause.Cause.{Cause}
 use Rattle.s66_why.specs.declared.cause.Cause.TheVariants.{Writes, Takes, References, Reads, Ends}
@@ -22,10 +22,10 @@ use Rattle.s66_why.specs.declared.cause.Holder.{Holder}
 use Rattle.s66_why.specs.declared.stretch.Stretch.{Stretch}
 use Rattle.s66_why.specs.declared.reservation.Reservation.{Reservation}
 use Rattle.s66_why.specs.declared.work.Work.{Work}
-use Rattle.s66_why.specs.Hazards.{register_name}
+use Rattle.s66_why.specs.Chart.{cycles_of}
 use Rattle.s66_why.specs.Reservations.{register_reservations}
 use Rattle.s66_why.specs.Units.{left_from, taken_from, work, works, works_of_kind}
-use Rattle.s66_why.specs.Why.{bank_name, conflict_name, in_three, path, stretches_at, why_text}
+use Rattle.s66_why.specs.Why.{conflict_name, in_three, path, register_name, stretches_at, why_text}
 use Rattle.s66_isa.specs.KindNames.{kind_name}
 use Rattle.s66_views.specs.declared.page.row.Shown.{Shown}
 use Rattle.s66_views.specs.declared.page.row.Shown.TheVariants.{Bar, Words}
@@ -52,10 +52,10 @@ bar class from cycles title = bar_start class from cycles ++ title ++ codes "</t
 
 -- what is waited for
 abbrev pub cause_words : Cause → List ℕ
-cause_words (Writes r) = bank_name r.bank ++ decimal r.digit ++ codes " still to come from "
+cause_words (Writes r) = register_name r ++ codes " still to come from "
 cause_words (Takes kind) = kind_name kind ++ codes " taken by "
 cause_words (References memory) = codes "memory used by "
-cause_words (Reads r) = bank_name r.bank ++ decimal r.digit ++ codes " still to be read by "
+cause_words (Reads r) = register_name r ++ codes " still to be read by "
 cause_words Ends = codes "the end of "
 
 abbrev pub words : Holder → List ℕ
@@ -209,9 +209,6 @@ order_head title total = heading title total ++ table_start total ++ ticks total
 -- the numbers of the path
 abbrev pub on_path : TimedOrder → List ℕ
 on_path t = path (points_of t.problem t.numbers)
-
-abbrev pub cycles_of : TimedOrder → ℕ
-cycles_of t = total_of t.problem t.numbers
 
 -- of the units, of the registers, and of the instructions
 abbrev pub all_rows : Block → TimedOrder → List ℕ

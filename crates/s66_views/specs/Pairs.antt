@@ -15,8 +15,8 @@ use Rattle.s66_compare.specs.Rows.{AreAligned, counted, has_new, has_old}
 use Rattle.s66_compare.specs.declared.difference.Difference.{Difference}
 use Rattle.s66_compare.specs.declared.rows.Row.{Row}
 use Rattle.s66_compare.specs.declared.rows.Row.TheVariants.{Both, NewAlone, OldAlone}
-use Rattle.s66_compare.specs.declared.verdict.Verdict.{Verdict}
-use Rattle.s66_compare.specs.declared.verdict.Verdict.TheVariants.{NotLegal, OtherNew, OtherOld, Reordered, Same}
+use Rattle.s66_compare.specs.declared.verdict.BlockVerdict.{BlockVerdict}
+use Rattle.s66_compare.specs.declared.verdict.BlockVerdict.TheVariants.{NotLegal, OtherNew, OtherOld, Reordered, Same}
 use Rattle.s66_views.specs.Escape.{escaped}
 use Rattle.s66_views.specs.Page.{as_written, block_anchor, order_text, profile_line}
 use Rattle.s66_views.specs.declared.page.page.Part.{Part}
@@ -37,7 +37,7 @@ in_new p new = order_text new (codes "In the new source") (as_written p new)
 
 -- of two blocks of which this is said: a new one that is the old one in a legal order is shown by the numbers of the old one's
 -- instructions, and one in the same order isn't shown again
-abbrev pub both_orders : Profile → (old new : Block) → Verdict → (order : List ℕ) → List ℕ
+abbrev pub both_orders : Profile → (old new : Block) → BlockVerdict → (order : List ℕ) → List ℕ
 both_orders p old new Same order = order_text old (codes "In both sources") (as_written p old)
 both_orders p old new Reordered order = in_old p old ++ order_text old (codes "In the new source") (in_order p old order)
 both_orders p old new (NotLegal number missing) order = in_old p old ++ in_new p new
@@ -61,17 +61,12 @@ behind at row = record { row = at.row + 1; old = counted (has_old row) at.old; n
 abbrev pub row_said : (new : List Block) → Place → Row → List ℕ
 row_said new at row = escaped (row_line true new at.old at.new row)
 
--- which links to the blocks
-unfoldable pub pair_link : (new : List Block) → Place → Row → List ℕ
-pair_link new at row = codes "<a href='#b" ++ decimal (at.row + 1) ++ codes "'>" ++ row_said new at row ++ codes "</a>\n"
-
-unfoldable pub pair_head : (new : List Block) → Place → Row → List ℕ
-pair_head new at row = block_anchor (at.row + 1) ++ row_said new at row ++ codes " <a href='#top'>&#8593;</a></h2>\n"
-
--- what a page has of a row: a line in the list of all rows, or its blocks
+-- what a page has of a row: a line in the list of all rows, which links to its blocks, or a heading and these
 abbrev pub pair_part : Profile → (old new : List Block) → Part → Place → Row → List ℕ
-pair_part p old new Link at row = pair_link new at row
-pair_part p old new Orders at row = pair_head new at row ++ row_orders p row (slice_get old at.old) (slice_get new at.new)
+pair_part p old new Link at row = codes "<a href='#b" ++ decimal (at.row + 1) ++ codes "'>" ++ row_said new at row ++ codes "</a>\n"
+pair_part p old new Orders at row =
+    block_anchor (at.row + 1) ++ row_said new at row ++ codes " <a href='#top'>&#8593;</a></h2>\n"
+    ++ row_orders p row (slice_get old at.old) (slice_get new at.new)
 
 -- of rows from a place on
 abbrev pub pair_parts : (Place → Row → List ℕ) → Place → List Row → List ℕ

@@ -2,7 +2,7 @@
 
 ghost use Rattle.std.specs.Prelude.{◌≡◌, ◌≤◌, ◌++◌, OnOk, length};
 ghost use Rattle.s66_line.specs.Block.{instrs_of};
-ghost use Rattle.s66_model.specs.Dependence.{all_needs, needs};
+ghost use Rattle.s66_model.specs.Dependence.{needs};
 ghost use Rattle.s66_isa.specs.Members.{numbers_in};
 ghost use Rattle.s66_views.specs.Pieces.{instruction_text, instructions_text, needs_text, operands_text, source_text, work_text};
 
@@ -84,25 +84,6 @@ fn push_instruction(
     push_needs(out, &row, after)
 }
 
-/// The instructions of a block, whose dependences these are.
-fn push_list(
-    out: &mut Vec<u8>,
-    profile: &Profile,
-    block: &Block,
-    dependences: &Dependences,
-) -> Result<(), AllocError>
-    requires { dependences.now ≡ all_needs (instrs_of block.now) }
-    ensures { OnOk result (out.new.items ≡ out.old.items ++ instructions_text profile.now block.now) }
-{
-    push_text(out, b",\"instructions\":[")?;
-    for position in 0..block.count() {
-        let after = dependences.needs((position + 1) as u8);
-        push_comma(out, 0 < position)?;
-        push_instruction(out, profile, block, position + 1, &after)?;
-    }
-    push_text(out, b"]")
-}
-
 /// The instructions of a block under a profile.
 pub(crate) fn push_instructions(
     out: &mut Vec<u8>,
@@ -111,5 +92,12 @@ pub(crate) fn push_instructions(
 ) -> Result<(), AllocError>
     ensures { OnOk result (out.new.items ≡ out.old.items ++ instructions_text profile.now block.now) }
 {
-    push_list(out, profile, block, &Dependences::of(block))
+    let dependences = Dependences::of(block);
+    push_text(out, b",\"instructions\":[")?;
+    for position in 0..block.count() {
+        let after = dependences.needs((position + 1) as u8);
+        push_comma(out, 0 < position)?;
+        push_instruction(out, profile, block, position + 1, &after)?;
+    }
+    push_text(out, b"]")
 }

@@ -1,14 +1,14 @@
 //! The bars of a row: what an instruction does and what it waits for, with the words that a bar shows.
 
-ghost use Rattle.std.specs.Prelude.{◌≡◌, ◌-◌, ◌++◌, OnOk, codes, decimal};
+ghost use Rattle.std.specs.Prelude.{◌≡◌, ◌-◌, ◌++◌, OnOk, codes};
 ghost use Rattle.s66_views.specs.Page.{bar, bar_start, numbered_bar, span, cause_words, words, stretch_title, stretch_bar, stretch_words, work_title, work_bar};
-ghost use Rattle.s66_why.specs.Why.{bank_name};
+ghost use Rattle.s66_why.specs.Why.{register_name};
 ghost use Rattle.s66_isa.specs.KindNames.{kind_name};
 
 use crate::page::text::{push_number, push_text};
 use s66_device::push_field;
 use s66_isa::{Kind, Reg, kind_name};
-use s66_why::{Cause, Holder, Stretch, Work, bank_name, conflict_name};
+use s66_why::{Cause, Holder, Stretch, Work, conflict_name, push_register_name};
 use std::alloc::AllocError;
 
 /// The end of a bar, after its title.
@@ -44,11 +44,9 @@ fn push_bar_start(out: &mut Vec<u8>, class: &[u8], from: u32, cycles: u32) -> Re
 
 /// A register and words after it.
 fn push_register(out: &mut Vec<u8>, register: Reg, words: &[u8]) -> Result<(), AllocError>
-    ensures { OnOk result (out.new.items ≡ out.old.items ++
-        (bank_name register.bank ++ decimal register.digit ++ words.now)) }
+    ensures { OnOk result (out.new.items ≡ out.old.items ++ (register_name register ++ words.now)) }
 {
-    push_text(out, bank_name(register.bank()))?;
-    push_number(out, register.digit())?;
+    push_register_name(out, register)?;
     push_text(out, words)
 }
 

@@ -224,9 +224,13 @@ fn push_bound_cell(out: &mut Vec<u8>, time: u32, bound: u32) -> Result<(), Alloc
     push_text(out, b"\n")
 }
 
-/// The row of a block in the list of all blocks.
+/// Appends the row of a block, which is entered by this name, in the list of all blocks. It links to the block. `Err` is out of memory.
 #[tactic(auto, unfolding(crate::specs::Page::index_row))]
-fn push_summary(out: &mut Vec<u8>, entry: &[u8], summary: &Summary) -> Result<(), AllocError>
+pub(crate) fn push_index_row(
+    out: &mut Vec<u8>,
+    entry: &[u8],
+    summary: &Summary,
+) -> Result<(), AllocError>
     ensures { OnOk result (out.new.items ≡ out.old.items ++ index_row entry.now summary.now) }
 {
     push_index_link(out, summary.number)?;
@@ -255,20 +259,4 @@ pub(crate) fn push_total_row(out: &mut Vec<u8>, total: &Total) -> Result<(), All
     push_cell(out, total.count)?;
     push_time_cells(out, total.source, total.time)?;
     push_best_cell(out, total.best)
-}
-
-/// Appends the row of a block, which is entered by this name, in the list of all blocks. It links to the block, whose number is from 1. `Err` is out of memory.
-pub(crate) fn push_index_row(
-    out: &mut Vec<u8>,
-    number: usize,
-    entry: &[u8],
-    block: &Block,
-    source: &Timed,
-    best: &Timed,
-    bound: u32,
-) -> Result<(), AllocError>
-    ensures { OnOk result (out.new.items ≡ out.old.items ++
-        index_row entry.now (summary number block.now source.now best.now bound)) }
-{
-    push_summary(out, entry, &summary_of(number, block, source, best, bound))
 }

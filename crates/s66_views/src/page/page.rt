@@ -45,7 +45,10 @@ fn push_entry(
     let best = timer.time(block, &found.order);
     let entry = found.entry.as_slice();
     match part {
-        Part::Row => push_index_row(out, number, entry, block, &source, &best, found.bound),
+        Part::Row => {
+            let summary = summary_of(number, block, &source, &best, found.bound);
+            push_index_row(out, entry, &summary)
+        }
         Part::Orders => {
             let reasons = found.reasons.as_slice();
             push_block(

@@ -6,7 +6,7 @@ ghost use Rattle.s66_line.specs.Block.{instrs_of};
 ghost use Rattle.s66_compare.specs.Rows.{AreOfBlocks, IsRowOf, counted};
 ghost use Rattle.s66_compare.specs.Verdict.{judged};
 ghost use Rattle.s66_views.specs.Page.{as_written, order_text};
-ghost use Rattle.s66_views.specs.Pairs.{IsPairsPage, all_pairs, both_orders, in_new, in_old, in_order, pair_head, pair_link, pair_part, pairs_head, pairs_list, pairs_text, row_orders, row_said};
+ghost use Rattle.s66_views.specs.Pairs.{IsPairsPage, all_pairs, both_orders, in_new, in_old, in_order, pair_part, pairs_head, pairs_list, pairs_text, row_orders, row_said};
 
 use crate::page::block::push_block_anchor;
 use crate::page::escape::push_escaped;
@@ -16,7 +16,7 @@ use crate::page::start::{PAGE_HEAD, PAGE_PAIRS, PAGE_START};
 use crate::page::text::{push_between, push_text};
 use s66_command::changes_of;
 use s66_compare::{
-    Compared, Difference, Judged, Row, Verdict, aligned_rows, difference_of, is_accepted,
+    BlockVerdict, Compared, Difference, Judged, Row, aligned_rows, difference_of, is_accepted,
     push_ending, push_row,
 };
 use s66_isa::Profile;
@@ -109,20 +109,6 @@ fn push_reordered(
     push_order(out, old, b"In the new source", &timed)
 }
 
-/// Two blocks, each as it is written.
-fn push_apart(
-    out: &mut Vec<u8>,
-    timer: &mut Timer,
-    old: &Block,
-    new: &Block,
-) -> Result<(), AllocError>
-    ensures profile { timer.new ≡ timer.old }
-    ensures text { OnOk result (out.new.items ≡ out.old.items ++ (in_old timer.old old.now ++ in_new timer.old new.now)) }
-{
-    push_old(out, timer, old)?;
-    push_new(out, timer, new)
-}
-
 /// Two blocks, of which this is said.
 fn push_both(
     out: &mut Vec<u8>,
@@ -137,14 +123,17 @@ fn push_both(
         both_orders timer.old old.now new.now said.now.verdict said.now.order) }
 {
     match said.verdict {
-        Verdict::Same => push_written(out, timer, old, b"In both sources"),
-        Verdict::Reordered => {
+        BlockVerdict::Same => push_written(out, timer, old, b"In both sources"),
+        BlockVerdict::Reordered => {
             let Some(order) = said.kept_order(old) else {
                 unreachable!()
             };
             push_reordered(out, timer, old, &order)
         }
-        _ => push_apart(out, timer, old, new),
+        _ => {
+            push_old(out, timer, old)?;
+            push_new(out, timer, new)
+        }
     }
 }
 
@@ -178,59 +167,23 @@ fn push_row_orders(
     }
 }
 
-/// What `compare --text` says of a row at a place.
+/// What `compare --text` says of a row at a place, and what stands behind that.
 fn push_said(
     out: &mut Vec<u8>,
     alloc: Global,
     new: &[Block],
     at: Place,
     row: &Row,
+    behind: &[u8],
 ) -> Result<(), AllocError>
     requires old { at.old < 2 ^ 63 }
     requires new { at.new < 2 ^ 63 }
-    ensures { OnOk result (out.new.items ≡ out.old.items ++ row_said new.now at row.now) }
+    ensures { OnOk result (out.new.items ≡ out.old.items ++ (row_said new.now at row.now ++ behind.now)) }
 {
     let mut said = Vec::new(alloc);
     push_row(&mut said, true, new, at.old, at.new, row)?;
-    push_escaped(out, said.as_slice())
-}
-
-/// What `compare --text` says of a row, as a link to its blocks.
-#[tactic(auto, unfolding(crate::specs::Pairs::pair_link))]
-fn push_pair_link(
-    out: &mut Vec<u8>,
-    alloc: Global,
-    new: &[Block],
-    at: Place,
-    row: &Row,
-) -> Result<(), AllocError>
-    requires row { at.row < 2 ^ 63 }
-    requires old { at.old < 2 ^ 63 }
-    requires new { at.new < 2 ^ 63 }
-    ensures { OnOk result (out.new.items ≡ out.old.items ++ pair_link new.now at row.now) }
-{
-    push_between(out, b"<a href='#b", at.row + 1, b"'>")?;
-    push_said(out, alloc, new, at, row)?;
-    push_text(out, b"</a>\n")
-}
-
-/// What `compare --text` says of a row, as the heading of its blocks.
-#[tactic(auto, unfolding(crate::specs::Pairs::pair_head))]
-fn push_pair_head(
-    out: &mut Vec<u8>,
-    alloc: Global,
-    new: &[Block],
-    at: Place,
-    row: &Row,
-) -> Result<(), AllocError>
-    requires row { at.row < 2 ^ 63 }
-    requires old { at.old < 2 ^ 63 }
-    requires new { at.new < 2 ^ 63 }
-    ensures { OnOk result (out.new.items ≡ out.old.items ++ pair_head new.now at row.now) }
-{
-    push_block_anchor(out, at.row + 1)?;
-    push_said(out, alloc, new, at, row)?;
-    push_text(out, b" <a href='#top'>&#8593;</a></h2>\n")
+    push_escaped(out, said.as_slice())?;
+    push_text(out, behind)
 }
 
 /// A part of a row at a place.
@@ -253,9 +206,14 @@ fn push_part(
         pair_part timer.old old.now new.now part at row.now) }
 {
     match part {
-        Part::Row => push_pair_link(out, alloc, new, at, row),
+        Part::Row => {
+            push_between(out, b"<a href='#b", at.row + 1, b"'>")?;
+            push_said(out, alloc, new, at, row, b"</a>\n")
+        }
         Part::Orders => {
-            push_pair_head(out, alloc, new, at, row)?;
+            push_block_anchor(out, at.row + 1)?;
+            let behind = b" <a href='#top'>&#8593;</a></h2>\n";
+            push_said(out, alloc, new, at, row, behind)?;
             push_row_orders(out, timer, old, new, at, row)
         }
     }

@@ -8,7 +8,7 @@ use Rattle.s66_line.specs.Block.{instrs_of}
 use Rattle.s66_time.proofs.Readiness.{needs-at}
 use Rattle.s66_views.specs.Pieces.{instruction_text, instructions_text, listed}
 use Rattle.s66_views.proofs.Appended.{of-three}
-use Rattle.s66_views.proofs.json_lines.instruction.push_list.Goals as goal
+use Rattle.s66_views.proofs.json_lines.instruction.push_instructions.Goals as goal
 use Rattle.s66_isa.proofs.Lists.{rising-next}
 use Rattle.s66_time.proofs.Opened.{count-needs}
 
@@ -22,13 +22,13 @@ loop-position-init c =
     ∙ append_assoc c.args.out.now.items start (listed text false (rising (length block - 0) 1)) ∙ ap (λ k. c.args.out.now.items ++ (start ++ listed text false (rising k 1))) none
 
 pub needs-after-requires : goal.needs-after-requires
-needs-after-requires c = (omega arith, omega (arith, ap (λ (all : List (List ℕ)). length all) c.requires, count-needs (instrs_of c.args.block.now)))
+needs-after-requires c = (omega arith, omega (arith, ap (λ (all : List (List ℕ)). length all) c.of-dependences.ensures, count-needs (instrs_of c.args.block.now)))
 
 pub push_instruction-requires-clause-after : goal.push_instruction-requires-clause-after
 push_instruction-requires-clause-after c =
     let block = instrs_of c.args.block.now in
     let i = c.loop-position.position in
-    c.needs-after.ensures ∙ (ap (λ (all : List (List ℕ)). get_or all (i + 1 - 1) []) c.requires ∙ needs-at block (i + 1) (omega arith) (omega arith))
+    c.needs-after.ensures ∙ (ap (λ (all : List (List ℕ)). get_or all (i + 1 - 1) []) c.of-dependences.ensures ∙ needs-at block (i + 1) (omega arith) (omega arith))
 
 pub loop-position-preserved : goal.loop-position-preserved
 loop-position-preserved c =

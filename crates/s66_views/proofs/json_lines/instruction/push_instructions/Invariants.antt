@@ -4,7 +4,7 @@ use Rattle.s66_isa.specs.Lists.{rising}
 use Rattle.s66_isa.specs.Table.{numbers}
 use Rattle.s66_line.specs.Block.{instrs_of}
 use Rattle.s66_views.specs.Pieces.{instruction_text, listed}
-use Rattle.s66_views.proofs.json_lines.instruction.push_list.Given as goal
+use Rattle.s66_views.proofs.json_lines.instruction.push_instructions.Given as goal
 
 abbrev pub invariant-loop-position : goal.invariant-loop-position
 invariant-loop-position l =
