@@ -12,7 +12,7 @@ use Rattle.s66_model.specs.Timing.{Problem, points_of, total_of}
 use Rattle.s66_model.specs.LegalOrder.{GoesOn, IsBeginning}
 use Rattle.s66_model.specs.Dominance.{Clamp, no_clamp, IsSameSet}
 use Rattle.s66_model.proofs.LegalOrders.{ready-parts}
-use Rattle.s66_facts.specs.Marked.{is_marked}
+use Rattle.s66_isa.specs.Members.{numbers_in}
 use Rattle.s66_isa.specs.declared.set.Set.{Set}
 use Rattle.s66_checker.specs.Dominating.{is_no_later, is_same_set, is_beginning, is_ahead, dominates_by}
 use Rattle.s66_checker.proofs.GoingTo.{goes_on-Decides}
@@ -49,12 +49,12 @@ run-within block prefix (m ∷ ns) n goes is =
 
 -- marks decide whether two beginnings are of one set
 pub set-stated : (block : List Instr) (own other : Set) (ns ms : List ℕ) (stated : Bool) → length block ≤ BLOCK_LIMIT → IsBeginning block ns → IsBeginning block ms →
-    ((m : ℕ) → 1 ≤ m → m ≤ BLOCK_LIMIT → is_marked own m ≡ has m ns) → ((m : ℕ) → 1 ≤ m → m ≤ BLOCK_LIMIT → is_marked other m ≡ has m ms) →
-    IsTrue stated ↔ ((m : ℕ) → 1 ≤ m → m ≤ BLOCK_LIMIT → is_marked own m ≡ is_marked other m) → stated ≡ is_same_set ns ms
+    ((m : ℕ) → 1 ≤ m → m ≤ BLOCK_LIMIT → has m (numbers_in own) ≡ has m ns) → ((m : ℕ) → 1 ≤ m → m ≤ BLOCK_LIMIT → has m (numbers_in other) ≡ has m ms) →
+    IsTrue stated ↔ ((m : ℕ) → 1 ≤ m → m ≤ BLOCK_LIMIT → has m (numbers_in own) ≡ has m (numbers_in other)) → stated ≡ is_same_set ns ms
 set-stated block own other ns ms stated few begins_ns begins_ms marked_ns marked_ms is =
     same_from_decides stated (is_same_set ns ms)
     (Decides-like stated
-    (λ (same : (m : ℕ) → 1 ≤ m → m ≤ BLOCK_LIMIT → is_marked own m ≡ is_marked other m) n.
+    (λ (same : (m : ℕ) → 1 ≤ m → m ≤ BLOCK_LIMIT → has m (numbers_in own) ≡ has m (numbers_in other)) n.
     let within = λ (low : 1 ≤ n) (high : n ≤ length block). (let last : n ≤ BLOCK_LIMIT = omega (arith, high, few) in sym (marked_ns n low last) ∙ same n low last ∙ marked_ms n low last) in
     has-both ns ms n
     (λ there. let (low, high) = run-within block [] ns n begins_ns there in sym (within low high) ∙ there)

@@ -12,7 +12,7 @@ use Rattle.s66_model.specs.LegalOrder.{IsBeginning, is_ready}
 use Rattle.s66_model.proofs.LegalOrders.{ready-parts, has_push-same, has_push-other, GoesOn-append}
 use Rattle.s66_model.proofs.PointTimes.{points_after-append, points_after-length}
 use Rattle.s66_model.proofs.Remaining.{step-begins}
-use Rattle.s66_facts.specs.Marked.{is_marked}
+use Rattle.s66_isa.specs.Members.{numbers_in}
 use Rattle.s66_isa.specs.declared.set.Set.{Set}
 use Rattle.s66_checker.specs.KeptPrefix.{with_profile, AreNeeds, AreTimed, IsPrefix}
 use Rattle.s66_checker.proofs.Reversed.{reverse-last}
@@ -30,7 +30,7 @@ prefix-length block profile rows all placed ns xs is =
 -- AT FIRST
 
 pub prefix-start : (block instrs : List Instr) (profile : Profile) (rows : List Row) (all : List Set) (placed : Set) (ns : List ℕ) (xs : List Point) → 1 ≤ length block → length block ≤ BLOCK_LIMIT →
-    instrs ≡ block → rows ≡ map (row profile) block → AreNeeds block all → ((m : ℕ) → is_marked placed m ≡ false) → ns ≡ [] → xs ≡ [] → IsPrefix instrs profile rows all placed ns xs
+    instrs ≡ block → rows ≡ map (row profile) block → AreNeeds block all → ((m : ℕ) → has m (numbers_in placed) ≡ false) → ns ≡ [] → xs ≡ [] → IsPrefix instrs profile rows all placed ns xs
 prefix-start block instrs profile rows all placed ns xs some few same known needed unmarked no_number no_point =
     subst (λ is. IsPrefix is profile rows all placed ns xs) (sym same)
     (record {
@@ -65,16 +65,16 @@ room-left block profile rows all placed ns xs n is ready =
     let more : length ns < BLOCK_LIMIT = omega (arith, beginning-few block (ns ++ n ∷ []) (step-begins block ns n is.begins ready), length-append ns (n ∷ []), is.few) in
     (omega (arith, more, prefix-length block profile rows all placed ns xs is), more)
 
-marked-push : (placed more : Set) (ns : List ℕ) (n : ℕ) → ((m : ℕ) → 1 ≤ m → is_marked more m ≡ (m == n || is_marked placed m)) → ((m : ℕ) → 1 ≤ m → m ≤ BLOCK_LIMIT → is_marked placed m ≡ has m ns) →
-    (m : ℕ) → 1 ≤ m → m ≤ BLOCK_LIMIT → is_marked more m ≡ has m (ns ++ n ∷ [])
+marked-push : (placed more : Set) (ns : List ℕ) (n : ℕ) → ((m : ℕ) → 1 ≤ m → has m (numbers_in more) ≡ (m == n || has m (numbers_in placed))) → ((m : ℕ) → 1 ≤ m → m ≤ BLOCK_LIMIT → has m (numbers_in placed) ≡ has m ns) →
+    (m : ℕ) → 1 ≤ m → m ≤ BLOCK_LIMIT → has m (numbers_in more) ≡ has m (ns ++ n ∷ [])
 marked-push placed more ns n with marked m low high =
     elim (cases_eq m n) [
-      | inl here ↦ with m low ∙ or_left (m == n) (is_marked placed m) (eq-eqb m n here) ∙ sym (ap (λ k. has k (ns ++ n ∷ [])) here ∙ has_push-same n ns)
+      | inl here ↦ with m low ∙ or_left (m == n) (has m (numbers_in placed)) (eq-eqb m n here) ∙ sym (ap (λ k. has k (ns ++ n ∷ [])) here ∙ has_push-same n ns)
       | inr apart ↦ with m low ∙ rw (ne_eqb m n apart) (marked m low high) ∙ sym (has_push-other m n ns apart)
     ]
 
 pub prefix-push : (block : List Instr) (profile : Profile) (rows : List Row) (all : List Set) (placed : Set) (ns : List ℕ) (xs : List Point) (n : ℕ) (more : Set) (p : Point) (ms : List ℕ) (ys : List Point) →
-    IsPrefix block profile rows all placed ns xs → ((m : ℕ) → 1 ≤ m → is_marked more m ≡ (m == n || is_marked placed m)) → is_ready block ns n ≡ true → p ≡ point_of (record { block = block; profile = profile }) (points_of (record { block = block; profile = profile }) ns) n →
+    IsPrefix block profile rows all placed ns xs → ((m : ℕ) → 1 ≤ m → has m (numbers_in more) ≡ (m == n || has m (numbers_in placed))) → is_ready block ns n ≡ true → p ≡ point_of (record { block = block; profile = profile }) (points_of (record { block = block; profile = profile }) ns) n →
     ms ≡ ns ++ n ∷ [] → ys ≡ xs ++ p ∷ [] → IsPrefix block profile rows all more ms ys
 prefix-push block profile rows all placed ns xs n more p ms ys is with ready made e4 e5 =
     let (low, high, new, met) = ready-parts block ns n ready in
@@ -101,8 +101,8 @@ last-ready block ns ms n begins e =
     let both = GoesOn-append block [] ms (n ∷ []) (subst (IsBeginning block) e begins) in
     (both.0, both.1.0)
 
-marked-pop : (placed less : Set) (ns : List ℕ) (n : ℕ) → has n ns ≡ false → ((m : ℕ) → 1 ≤ m → m ≤ BLOCK_LIMIT → is_marked less m ≡ (not (m == n) && is_marked placed m)) → ((m : ℕ) → 1 ≤ m → m ≤ BLOCK_LIMIT → is_marked placed m ≡ has m (ns ++ n ∷ [])) →
-    (m : ℕ) → 1 ≤ m → m ≤ BLOCK_LIMIT → is_marked less m ≡ has m ns
+marked-pop : (placed less : Set) (ns : List ℕ) (n : ℕ) → has n ns ≡ false → ((m : ℕ) → 1 ≤ m → m ≤ BLOCK_LIMIT → has m (numbers_in less) ≡ (not (m == n) && has m (numbers_in placed))) → ((m : ℕ) → 1 ≤ m → m ≤ BLOCK_LIMIT → has m (numbers_in placed) ≡ has m (ns ++ n ∷ [])) →
+    (m : ℕ) → 1 ≤ m → m ≤ BLOCK_LIMIT → has m (numbers_in less) ≡ has m ns
 marked-pop placed less ns n new without marked m low high =
     elim (cases_eq m n) [
       | inl here ↦ without m low high ∙ rw (eq-eqb m n here) (sym (ap (λ k. has k ns) here ∙ new))
@@ -110,7 +110,7 @@ marked-pop placed less ns n new without marked m low high =
     ]
 
 pub prefix-pop : (block : List Instr) (profile : Profile) (rows : List Row) (all : List Set) (placed : Set) (ns : List ℕ) (xs : List Point) (n : ℕ) (less : Set) (ms : List ℕ) (ys : List Point) →
-    IsPrefix block profile rows all placed ns xs → ((m : ℕ) → 1 ≤ m → m ≤ BLOCK_LIMIT → is_marked less m ≡ (not (m == n) && is_marked placed m)) → ns ≡ ms ++ n ∷ [] → ys ≡ take (length xs - 1) xs → IsPrefix block profile rows all less ms ys
+    IsPrefix block profile rows all placed ns xs → ((m : ℕ) → 1 ≤ m → m ≤ BLOCK_LIMIT → has m (numbers_in less) ≡ (not (m == n) && has m (numbers_in placed))) → ns ≡ ms ++ n ∷ [] → ys ≡ take (length xs - 1) xs → IsPrefix block profile rows all less ms ys
 prefix-pop block profile rows all placed ns xs n less ms ys is without e1 e2 =
     let (begins, ready) = last-ready block ns ms n is.begins e1 in
     let (low, high, new, met) = ready-parts block ms n ready in

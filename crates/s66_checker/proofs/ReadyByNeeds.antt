@@ -10,7 +10,7 @@ use Rattle.s66_model.specs.Dependence.{depends}
 use Rattle.s66_model.specs.LegalOrder.{IsBeginning, needs_met}
 use Rattle.s66_model.proofs.LegalOrders.{needs-each, each-needs, depends-from, depends-lt}
 use Rattle.s66_model.proofs.Beginnings.{beginning-front}
-use Rattle.s66_facts.specs.Marked.{is_marked}
+use Rattle.s66_isa.specs.Members.{numbers_in}
 use Rattle.s66_isa.specs.declared.set.Set.{Set}
 
 -- a beginning has no more numbers than its block
@@ -25,8 +25,8 @@ leb-next m k apart =
     ]
 
 -- the marks of what n depends on decide whether it is met
-pub met-by : (block : List Instr) (prefix : List ℕ) (n : ℕ) (placed own : Set) (met : Bool) → ((m : ℕ) → 1 ≤ m → m ≤ BLOCK_LIMIT → is_marked own m ≡ depends block m n) → ((m : ℕ) → 1 ≤ m → m ≤ BLOCK_LIMIT → is_marked placed m ≡ has m prefix) →
-    length block ≤ BLOCK_LIMIT → n ≤ length block → IsTrue met ↔ ((m : ℕ) → 1 ≤ m → m ≤ BLOCK_LIMIT → is_marked own m ≡ true → is_marked placed m ≡ true) → met ≡ needs_met block prefix n n
+pub met-by : (block : List Instr) (prefix : List ℕ) (n : ℕ) (placed own : Set) (met : Bool) → ((m : ℕ) → 1 ≤ m → m ≤ BLOCK_LIMIT → has m (numbers_in own) ≡ depends block m n) → ((m : ℕ) → 1 ≤ m → m ≤ BLOCK_LIMIT → has m (numbers_in placed) ≡ has m prefix) →
+    length block ≤ BLOCK_LIMIT → n ≤ length block → IsTrue met ↔ ((m : ℕ) → 1 ≤ m → m ≤ BLOCK_LIMIT → has m (numbers_in own) ≡ true → has m (numbers_in placed) ≡ true) → met ≡ needs_met block prefix n n
 met-by block prefix n placed own met needed marked few high within =
     both_ways met (needs_met block prefix n n)
     (λ h.
@@ -44,16 +44,16 @@ met-by block prefix n placed own met needed marked few high within =
 
 -- the numbers looked at so far are marked if it depends on them
 abbrev pub Looked : List Instr → ℕ → ℕ → Set → Type 0
-Looked block k n marks = (m : ℕ) → 1 ≤ m → m ≤ BLOCK_LIMIT → is_marked marks m ≡ (leb m k && depends block m n)
+Looked block k n marks = (m : ℕ) → 1 ≤ m → m ≤ BLOCK_LIMIT → has m (numbers_in marks) ≡ (leb m k && depends block m n)
 
-pub looked-none : (block : List Instr) (n : ℕ) (marks : Set) → ((m : ℕ) → is_marked marks m ≡ false) → Looked block 0 n marks
+pub looked-none : (block : List Instr) (n : ℕ) (marks : Set) → ((m : ℕ) → has m (numbers_in marks) ≡ false) → Looked block 0 n marks
 looked-none block n marks none m first last = none m ∙ sym (and_left (leb m 0) (depends block m n) (lt-leb m 0 (omega (arith, first))))
 
-pub looked-next : (block : List Instr) (k n : ℕ) (old new : Set) → Looked block k n old → depends block (k + 1) n ≡ true → ((m : ℕ) → 1 ≤ m → is_marked new m ≡ (m == k + 1 || is_marked old m)) → Looked block (k + 1) n new
+pub looked-next : (block : List Instr) (k n : ℕ) (old new : Set) → Looked block k n old → depends block (k + 1) n ≡ true → ((m : ℕ) → 1 ≤ m → has m (numbers_in new) ≡ (m == k + 1 || has m (numbers_in old))) → Looked block (k + 1) n new
 looked-next block k n old new so_far depended with m first last =
     elim (cases_eq m (k + 1)) [
       | inl here ↦
-          with m first ∙ or_left (m == k + 1) (is_marked old m) (eq-eqb m (k + 1) here)
+          with m first ∙ or_left (m == k + 1) (has m (numbers_in old)) (eq-eqb m (k + 1) here)
           ∙ sym (and_from (leb m (k + 1)) (depends block m n) (le-leb m (k + 1) (omega (arith, here))) (ap (λ a. depends block a n) here ∙ depended))
       | inr apart ↦
           with m first ∙ rw (ne_eqb m (k + 1) apart) (so_far m first last) ∙ ap (λ b. b && depends block m n) (leb-next m k apart)
@@ -68,7 +68,7 @@ looked-past block k n marks so_far off m first last =
       | inr apart ↦ so_far m first last ∙ ap (λ b. b && depends block m n) (leb-next m k apart)
     ]
 
-pub looked-all : (block : List Instr) (k n : ℕ) (marks : Set) → Looked block k n marks → n ≤ k + 1 → (m : ℕ) → 1 ≤ m → m ≤ BLOCK_LIMIT → is_marked marks m ≡ depends block m n
+pub looked-all : (block : List Instr) (k n : ℕ) (marks : Set) → Looked block k n marks → n ≤ k + 1 → (m : ℕ) → 1 ≤ m → m ≤ BLOCK_LIMIT → has m (numbers_in marks) ≡ depends block m n
 looked-all block k n marks so_far enough m first last =
     elim (cases_Bool (depends block m n)) [
       | inl is ↦ so_far m first last ∙ rw is (and_from (leb m k) true (le-leb m k (omega (arith, depends-lt block m n is, enough))) refl)

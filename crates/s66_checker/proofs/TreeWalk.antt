@@ -5,7 +5,7 @@ use Rattle.s66_isa.specs.declared.instr.Instr.{Instr}
 use Rattle.s66_isa.specs.Lists.{Among}
 use Rattle.s66_model.specs.Timing.{Problem}
 use Rattle.s66_model.specs.LegalOrder.{is_ready, ready}
-use Rattle.s66_model.specs.Later.{IsNextReady, children, later}
+use Rattle.s66_model.specs.Later.{IsNextReady, children, coming, later}
 use Rattle.s66_model.specs.Tree.{Vertex, AtTerminal, AtSplit}
 use Rattle.s66_model.specs.DominatedLeaves.{Ending}
 use Rattle.s66_model.proofs.Later.{replaced, dropped, split-first}
@@ -19,7 +19,7 @@ use Rattle.s66_checker.specs.declared.verdict.Verdict.TheVariants.{Yes, No}
 use Rattle.s66_checker.specs.declared.verdict.Reason.{Reason}
 use Rattle.s66_line.specs.InstructionText.{instr_in_text}
 use Rattle.s66_checker.specs.Verdict.{problem_of, facts_of, line_fault, lines_verdict, tree_line_number}
-use Rattle.s66_checker.specs.Walk.{coming, coming_after, HasReady}
+use Rattle.s66_checker.specs.Walk.{coming_after, HasReady}
 use Rattle.s66_checker.proofs.Faultless.{split-shows}
 use Rattle.s66_checker.proofs.Placed.{placed, none-placed, tree-placed, few-lines}
 

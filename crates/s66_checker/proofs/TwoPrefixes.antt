@@ -10,7 +10,7 @@ use Rattle.s66_model.specs.declared.rule.Rule.TheVariants.{WrittenEarlier, Clamp
 use Rattle.s66_model.specs.Timing.{Problem, Point, points_of, next, total_of}
 use Rattle.s66_model.specs.LegalOrder.{IsBeginning}
 use Rattle.s66_model.specs.Dominance.{Clamp, no_clamp, clamp_at}
-use Rattle.s66_facts.specs.Marked.{is_marked}
+use Rattle.s66_isa.specs.Members.{numbers_in}
 use Rattle.s66_isa.specs.declared.set.Set.{Set}
 use Rattle.s66_checker.specs.Dominating.{is_no_later, is_same_set, dominates_by}
 use Rattle.s66_checker.specs.KeptPrefix.{IsPrefix}
@@ -21,7 +21,7 @@ pub record Keeps (b : Problem) (numbers : List ℕ) (own : Profile) (placed : Se
   pub profile : own ≡ b.profile
   pub few : length b.block ≤ BLOCK_LIMIT
   pub begins : IsBeginning b.block numbers
-  pub marked : (m : ℕ) → 1 ≤ m → m ≤ BLOCK_LIMIT → is_marked placed m ≡ has m numbers
+  pub marked : (m : ℕ) → 1 ≤ m → m ≤ BLOCK_LIMIT → has m (numbers_in placed) ≡ has m numbers
   pub timed : reverse xs ≡ points_of b numbers
 
 pub keeps : (block : List Instr) (profile : Profile) (rows : List Row) (all : List Set) (placed : Set) (ns : List ℕ) (xs : List Point) → IsPrefix block profile rows all placed ns xs → Keeps (record { block = block; profile = profile }) ns profile placed xs
@@ -30,7 +30,7 @@ keeps block profile rows all placed ns xs is =
 
 -- the marks of both decide whether they are of one set
 pub same-stated : (b : Problem) (name at : List ℕ) (profile other_profile : Profile) (placed other_placed : Set) (xs ys : List Point) (stated : Bool) → Keeps b name profile placed xs → Keeps b at other_profile other_placed ys →
-    IsTrue stated ↔ ((m : ℕ) → 1 ≤ m → m ≤ BLOCK_LIMIT → is_marked placed m ≡ is_marked other_placed m) → stated ≡ is_same_set name at
+    IsTrue stated ↔ ((m : ℕ) → 1 ≤ m → m ≤ BLOCK_LIMIT → has m (numbers_in placed) ≡ has m (numbers_in other_placed)) → stated ≡ is_same_set name at
 same-stated b name at profile other_profile placed other_placed xs ys stated named there is =
     set-stated b.block placed other_placed name at stated named.few named.begins there.begins named.marked there.marked is
 

@@ -8,7 +8,7 @@ use Rattle.s66_model.specs.Timing.{Problem, Point, points_of}
 use Rattle.s66_model.specs.Dependence.{depends}
 use Rattle.s66_model.specs.LegalOrder.{IsBeginning}
 use Rattle.s66_isa.specs.declared.limits.TheConstants.{BLOCK_LIMIT}
-use Rattle.s66_facts.specs.Marked.{is_marked}
+use Rattle.s66_isa.specs.Members.{numbers_in}
 use Rattle.s66_isa.specs.declared.set.Set.{Set}
 
 -- the most minor cycles that an order of a block takes: each instruction adds at most 104
@@ -29,7 +29,7 @@ pub record AreTimed (points : List Point) : Type 0 where
 -- the numbers that each instruction of the block depends on are marked
 pub record AreNeeds (block : List Instr) (all : List Set) : Type 0 where
   pub count : length all ≡ length block
-  pub each : (i : ℕ) (d : Set) → i < length block → (m : ℕ) → 1 ≤ m → m ≤ BLOCK_LIMIT → is_marked (get_or all i d) m ≡ depends block m (i + 1)
+  pub each : (i : ℕ) (d : Set) → i < length block → (m : ℕ) → 1 ≤ m → m ≤ BLOCK_LIMIT → has m (numbers_in (get_or all i d)) ≡ depends block m (i + 1)
 
 -- what a prefix keeps: its block and profile with their rows, the needs, which numbers are placed, the numbers, and their points with the oldest first
 pub record IsPrefix (block : List Instr) (profile : Profile) (rows : List Row) (all : List Set) (placed : Set) (numbers : List ℕ) (points : List Point) : Type 0 where
@@ -38,5 +38,5 @@ pub record IsPrefix (block : List Instr) (profile : Profile) (rows : List Row) (
   pub begins : IsBeginning block numbers
   pub known : rows ≡ map (row profile) block
   pub needed : AreNeeds block all
-  pub marked : (m : ℕ) → 1 ≤ m → m ≤ BLOCK_LIMIT → is_marked placed m ≡ has m numbers
+  pub marked : (m : ℕ) → 1 ≤ m → m ≤ BLOCK_LIMIT → has m (numbers_in placed) ≡ has m numbers
   pub timed : reverse points ≡ points_of (record { block = block; profile = profile }) numbers

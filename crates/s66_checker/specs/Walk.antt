@@ -1,15 +1,10 @@
--- Used by contracts: the prefixes that a walk over the lines of a tree reaches, each split into all its ready numbers.
-use Rattle.std.specs.Prelude.{◌≡◌, ℕ, Bool, true, false, List, [], ◌∷◌, ◌++◌}
+-- Used by contracts: what a walk over the lines of a tree reaches after a line, each prefix split into all its ready numbers.
+use Rattle.std.specs.Prelude.{◌≡◌, ℕ, List, [], ◌++◌}
 use Rattle.s66_isa.specs.declared.instr.Instr.{Instr}
 use Rattle.s66_model.specs.LegalOrder.{ready}
 use Rattle.s66_model.specs.Later.{children, later}
 use Rattle.s66_model.specs.Tree.{Vertex, AtTerminal, AtSplit}
 use Rattle.s66_model.specs.DominatedLeaves.{Ending}
-
--- what is to come if the walk goes on with this prefix, and if it has ended
-abbrev pub coming : List Instr → Bool → List ℕ → List (List ℕ)
-coming block true prefix = prefix ∷ later block [] prefix
-coming block false prefix = []
 
 -- what is to come after a line at this prefix
 abbrev pub coming_after : List Instr → List ℕ → Vertex Ending → List (List ℕ)

@@ -3,7 +3,8 @@
 ghost use Rattle.std.specs.Prelude.{ℕ, ◌≡◌, ◌+◌, ◌≤◌, ◌<◌, length};
 ghost use Rattle.s66_model.specs.Dependence.{share, depends};
 ghost use Rattle.s66_isa.specs.declared.limits.TheConstants.{BLOCK_LIMIT};
-ghost use Rattle.s66_facts.specs.Marked.{is_marked};
+ghost use Rattle.s66_isa.specs.Lists.{has};
+ghost use Rattle.s66_isa.specs.Members.{numbers_in};
 ghost use Rattle.s66_checker.specs.KeptPrefix.{AreNeeds};
 
 use arrayvec::ArrayVec;
@@ -104,7 +105,7 @@ fn depends(block: &[Effects], earlier: usize, position: usize) -> bool
 fn needs(block: &[Effects], position: usize) -> Set
     requires few { length block.now ≤ BLOCK_LIMIT }
     requires within { position < length block.now }
-    ensures { (m : ℕ) → 1 ≤ m → m ≤ BLOCK_LIMIT → is_marked result m ≡ depends block.now m (position + 1) }
+    ensures { (m : ℕ) → 1 ≤ m → m ≤ BLOCK_LIMIT → has m (numbers_in result) ≡ depends block.now m (position + 1) }
 {
     let mut needs = Set::empty();
     for earlier in 0..block.len() {

@@ -59,7 +59,7 @@ impl Prefix {
     ghost use Rattle.s66_model.specs.Dependence.{depends};
     ghost use Rattle.s66_isa.specs.Lists.{has};
     ghost use Rattle.s66_moments.specs.Known.{is_number};
-    ghost use Rattle.s66_facts.specs.Marked.{is_marked};
+    ghost use Rattle.s66_isa.specs.Members.{numbers_in};
     ghost use Rattle.s66_checker.specs.KeptPrefix.{AreTimed};
     ghost use Rattle.s66_checker.specs.Dominating.{is_beginning, is_same_set, is_earlier, dominates_by};
 
@@ -172,7 +172,7 @@ impl Prefix {
     /// The numbers that the instruction of a number depends on.
     fn needs(&self, n: u8) -> Set
         requires { (1 ≤ n) × (n ≤ length self.now.problem.block) }
-        ensures { (m : ℕ) → 1 ≤ m → m ≤ BLOCK_LIMIT → is_marked result m ≡ depends self.now.problem.block m n }
+        ensures { (m : ℕ) → 1 ≤ m → m ≤ BLOCK_LIMIT → has m (numbers_in result) ≡ depends self.now.problem.block m n }
     {
         self.needs[n as usize - 1]
     }
