@@ -17,10 +17,10 @@ use Rattle.s66_moments.specs.Known.{span}
 use Rattle.s66_moments.proofs.NextLeaves.{path-join, waits-join}
 use Rattle.s66_moments.proofs.Spans.{height, some-height, span-high, span-path}
 use Rattle.s66_facts.specs.Marked.{before_in}
-use Rattle.s66_facts.specs.Ground.{Ground, IsOrdered, ground_arcs}
+use Rattle.s66_facts.specs.Ground.{Ground, IsAcyclic, ground_arcs}
 use Rattle.s66_facts.proofs.Edges.{HasArc, is-stage, loads-longer, rises}
 
-module _ (g : Ground) (ordered : IsOrdered g) (n : ℕ) (number : IsNumber g.problem n) where
+module _ (g : Ground) (ordered : IsAcyclic g) (n : ℕ) (number : IsNumber g.problem n) where
   abbrev b : Problem
   b = g.problem
 

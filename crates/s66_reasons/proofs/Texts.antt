@@ -13,17 +13,18 @@ use Rattle.s66_model.specs.DominatedLeaves.{Ending}
 use Rattle.s66_cert.specs.Document.{Document}
 use Rattle.s66_cert.proofs.Printed.{drop-here}
 use Rattle.s66_checker.specs.Verdict.{problem_of}
-use Rattle.s66_reasons.specs.Words.{Reason, in_four, row_text, rows_text}
+use Rattle.s66_why.specs.Why.{on_right}
+use Rattle.s66_reasons.specs.Words.{Reason, row_text, rows_text}
 use Rattle.s66_reasons.specs.ChainWords.{link_row, walk_rows}
 use Rattle.s66_reasons.specs.Reasons.{if_words, line_text, lines_text}
 use Rattle.s66_reasons.specs.Within.{is_split, vertex_text}
 use Rattle.s66_isa.proofs.Lists.{rising-next}
 
 -- its number, its words, and the end of the line
-pub row-pushed : {T E : Type 0} (r : Result T E) (out first second new words : List ℕ) (number : ℕ) → first ≡ out ++ (in_four number ++ codes "  ") →
-    second ≡ first ++ words → IfOk r (λ _. new ≡ second ++ codes "\n") → IfOk r (λ _. new ≡ out ++ (in_four number ++ codes "  " ++ words ++ codes "\n"))
+pub row-pushed : {T E : Type 0} (r : Result T E) (out first second new words : List ℕ) (number : ℕ) → first ≡ out ++ (on_right 4 number ++ codes "  ") →
+    second ≡ first ++ words → IfOk r (λ _. new ≡ second ++ codes "\n") → IfOk r (λ _. new ≡ out ++ (on_right 4 number ++ codes "  " ++ words ++ codes "\n"))
 row-pushed r out first second new words number one two three =
-    let front = in_four number ++ codes "  " in
+    let front = on_right 4 number ++ codes "  " in
     IfOk-equal r new (second ++ codes "\n") (out ++ (front ++ words ++ codes "\n")) three
     (ap (λ xs. xs ++ codes "\n") (two ∙ ap (λ xs. xs ++ words) one ∙ append_assoc out front words) ∙ append_assoc out (front ++ words) (codes "\n"))
 

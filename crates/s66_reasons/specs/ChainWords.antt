@@ -4,9 +4,10 @@ use Rattle.s66_isa.specs.declared.reg.Reg.{Reg}
 use Rattle.s66_isa.specs.Table.{Row, Write, has_reg}
 use Rattle.s66_model.specs.Timing.{points_of, row_at}
 use Rattle.s66_model.specs.Leaves.{head, link, tail, uses}
+use Rattle.s66_why.specs.Why.{register_name}
 use Rattle.s66_cert.specs.Document.{Document}
 use Rattle.s66_checker.specs.Verdict.{problem_of}
-use Rattle.s66_reasons.specs.Words.{Reason, instruction, register}
+use Rattle.s66_reasons.specs.Words.{Reason, instruction}
 
 -- the first of these results for which n waits so long; none if it waits for a reference to memory
 abbrev pub awaited : ℕ → Row → List Write → Option Reg
@@ -16,7 +17,7 @@ awaited wait n (w ∷ ws) = if uses n w.reg && w.latency == wait then Some w.reg
 abbrev pub link_words : Document → ℕ → ℕ → Option Reg → List ℕ
 link_words d m n None = instruction d n ++ codes " can reference memory, after " ++ instruction d m ++ codes " has"
 link_words d m n (Some x) =
-    register x ++ codes " of " ++ instruction d m ++ codes " is there, which " ++ instruction d n
+    register_name x ++ codes " of " ++ instruction d m ++ codes " is there, which " ++ instruction d n
     ++ (if has_reg x (row_at (problem_of d) n).reads then codes " reads" else codes " writes again")
 
 -- m starts at t, and n starts no sooner than this
@@ -36,7 +37,7 @@ last_result r = if r.hold + 1 == tail r then None else lasting (tail r) r.writes
 
 abbrev pub end_words : Document → ℕ → Option Reg → List ℕ
 end_words d n None = codes "the unit of " ++ instruction d n ++ codes " is free, and that is the end"
-end_words d n (Some x) = register x ++ codes " of " ++ instruction d n ++ codes " is there, and that is the end"
+end_words d n (Some x) = register_name x ++ codes " of " ++ instruction d n ++ codes " is there, and that is the end"
 
 -- n starts at t
 abbrev pub end_row : Document → ℕ → ℕ → Reason

@@ -13,11 +13,12 @@ use Rattle.s66_moments.specs.declared.fact_line.FactStep.{FactStep}
 use Rattle.s66_moments.specs.declared.fact_line.FactStep.TheVariants.{Fact, Suppose, Refuted}
 use Rattle.s66_moments.specs.Networks.{Network, most_arcs, network, precedes, same_moment, targets}
 use Rattle.s66_moments.specs.Known.{arcs_of, plus, reaches, span}
+use Rattle.s66_why.specs.Why.{register_name}
 use Rattle.s66_cert.specs.Document.{Document}
 use Rattle.s66_checker.specs.Verdict.{facts_of, known_of, problem_of}
 use Rattle.s66_reasons.specs.declared.hop.Hop.{Hop}
 use Rattle.s66_reasons.specs.ChainWords.{end_words, link_words}
-use Rattle.s66_reasons.specs.Words.{Reason, counted, instruction, listed, register, unit_name}
+use Rattle.s66_reasons.specs.Words.{Reason, counted, instruction, listed, unit_name}
 
 -- THE PATH
 
@@ -173,7 +174,7 @@ free_unit_words d kind m n =
 -- the third order of conflict, in a register that m reads
 abbrev pub third_words : Document → (m n : ℕ) → Stage → List ℕ
 third_words d m n (Done x) =
-    instruction d m ++ codes " has read " ++ register x ++ codes ", so that of " ++ instruction d n ++ codes " can be there"
+    instruction d m ++ codes " has read " ++ register_name x ++ codes ", so that of " ++ instruction d n ++ codes " can be there"
 third_words d m n Issue = link_words d m n None
 third_words d m n Start = link_words d m n None
 third_words d m n Free = link_words d m n None

@@ -1,13 +1,12 @@
 -- To be believed: words of which sentences are made, and rows.
 -- the examples open it, to compute numbers
 unfoldable pub use Rattle.std.specs.Fmt.{digits}
-use Rattle.std.specs.Prelude.{ℕ, zero, suc, ◌+◌, ◌-◌, ◌*◌, if◌then◌else◌, ◌==◌, List, [], ◌∷◌, ◌++◌, codes, decimal, flat_map, get_or, length, replicate}
+use Rattle.std.specs.Prelude.{ℕ, zero, suc, ◌+◌, ◌-◌, ◌*◌, if◌then◌else◌, ◌==◌, List, [], ◌∷◌, ◌++◌, codes, decimal, flat_map, get_or, length}
 use Rattle.s66_isa.specs.declared.instr.Kind.{Kind}
 use Rattle.s66_isa.specs.declared.instr.Kind.TheVariants.{Boolean, Shift, Add, LongAdd, Multiply, Divide, Increment}
-use Rattle.s66_isa.specs.declared.reg.Reg.{Reg}
 use Rattle.s66_isa.specs.Lists.{greatest}
 use Rattle.s66_model.specs.Timing.{Problem, row_at}
-use Rattle.s66_why.specs.Why.{bank_name}
+use Rattle.s66_why.specs.Why.{on_right}
 use Rattle.s66_cert.specs.Document.{Document}
 
 -- WORDS
@@ -15,9 +14,6 @@ use Rattle.s66_cert.specs.Document.{Document}
 -- an instruction: its number, and its text as the document has it
 abbrev pub instruction : Document → ℕ → List ℕ
 instruction d n = decimal n ++ codes " " ++ get_or d.block (n - 1) []
-
-abbrev pub register : Reg → List ℕ
-register r = bank_name r.bank ++ decimal r.digit
 
 abbrev pub unit_name : Kind → List ℕ
 unit_name Boolean = codes "Boolean"
@@ -59,11 +55,8 @@ pub record Reason : Type 0 where
   pub number : ℕ
   pub words : List ℕ
 
-abbrev pub in_four : ℕ → List ℕ
-in_four n = replicate (4 - length (decimal n)) 32 ++ decimal n
-
 abbrev pub row_text : Reason → List ℕ
-row_text r = in_four r.number ++ codes "  " ++ r.words ++ codes "\n"
+row_text r = on_right 4 r.number ++ codes "  " ++ r.words ++ codes "\n"
 
 abbrev pub rows_text : List Reason → List ℕ
 rows_text rows = flat_map row_text rows

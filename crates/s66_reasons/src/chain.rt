@@ -10,10 +10,11 @@ ghost use Rattle.s66_reasons.specs.ChainWords.{awaited, chain_rows, end_row, end
 ghost use Rattle.s66_reasons.specs.Words.{row_text, rows_text};
 ghost use Rattle.s66_reasons.specs.Within.{AreWithin};
 
-use crate::words::{push_around, push_instruction, push_number, push_register};
+use crate::words::{push_around, push_instruction, push_number};
 use s66_cert::Document;
 use s66_checker::{Prefix, head, link, tail, uses};
 use s66_isa::{Reg, Row, Write, has_register};
+use s66_why::push_register_name;
 use std::alloc::AllocError;
 
 /// The first of these results for which a later instruction waits so long; none if it waits for a reference to memory.
@@ -72,7 +73,7 @@ pub(crate) fn push_link_words(
             out.extend_from_slice(b" has")
         }
         Some(which) => {
-            push_register(out, which)?;
+            push_register_name(out, which)?;
             out.extend_from_slice(b" of ")?;
             push_instruction(out, document, m)?;
             out.extend_from_slice(b" is there, which ")?;
@@ -96,7 +97,7 @@ fn push_result_end(
 ) -> Result<(), AllocError>
     ensures { OnOk result (out.new.items ≡ out.old.items ++ end_words (document_of document.now) n (Some which)) }
 {
-    push_register(out, which)?;
+    push_register_name(out, which)?;
     out.extend_from_slice(b" of ")?;
     push_instruction(out, document, n)?;
     out.extend_from_slice(b" is there, and that is the end")

@@ -10,12 +10,12 @@ use crate::chain::{push_end_words, push_link_words};
 use crate::hop::Hop;
 use crate::known_paths::KnownPaths;
 use crate::words::{
-    push_around, push_between, push_counted, push_instruction, push_number, push_register,
-    separator, unit_name,
+    push_around, push_between, push_counted, push_instruction, push_number, separator, unit_name,
 };
 use s66_cert::Document;
 use s66_isa::{Kind, Reg};
 use s66_moments::{Moment, Stage};
+use s66_why::push_register_name;
 use std::alloc::AllocError;
 
 /// Fact lines, one after the other.
@@ -89,7 +89,7 @@ fn push_read_words(
         third_words (document_of document.now) m n (Done register)) }
 {
     push_around(out, b"", document, m, b" has read ")?;
-    push_register(out, register)?;
+    push_register_name(out, register)?;
     push_around(out, b", so that of ", document, n, b" can be there")
 }
 

@@ -1,22 +1,15 @@
-//! Words, numbers, registers and lists of instructions, of which the sentences are made.
+//! Words, numbers and lists of instructions, of which the sentences are made.
 
 ghost use Rattle.std.specs.Prelude.{◌≡◌, ◌++◌, OnOk, codes, decimal};
 ghost use Rattle.s66_cert.specs.DocumentParts.{document_of};
-ghost use Rattle.s66_reasons.specs.Words.{counted, in_four, instruction, listed, register, separator, unit_name};
+ghost use Rattle.s66_reasons.specs.Words.{counted, instruction, listed, separator, unit_name};
+ghost use Rattle.s66_why.specs.Why.{on_right};
 
-use itoa::Buffer;
 use s66_cert::Document;
 use s66_device::push_field;
-use s66_isa::{Kind, Reg};
-use s66_why::bank_name;
+use s66_isa::Kind;
+use s66_why::push_on_right;
 use std::alloc::AllocError;
-
-/// Words.
-pub(crate) fn push_words(out: &mut Vec<u8>, words: &[u8]) -> Result<(), AllocError>
-    ensures { OnOk result (out.new.items ≡ out.old.items ++ words.now) }
-{
-    out.extend_from_slice(words)
-}
 
 /// Words with a number between.
 pub(crate) fn push_between(
@@ -31,22 +24,11 @@ pub(crate) fn push_between(
     out.extend_from_slice(after)
 }
 
-/// A number right in four places.
-fn push_in_four(out: &mut Vec<u8>, number: usize) -> Result<(), AllocError>
-    ensures { OnOk result (out.new.items ≡ out.old.items ++ in_four number) }
-{
-    let mut buffer = Buffer::new();
-    let digits = buffer.format(number).as_bytes();
-    let margin = &b"    "[..4usize.saturating_sub(digits.len())];
-    out.extend_from_slice(margin)?;
-    out.extend_from_slice(digits)
-}
-
 /// A number right in four places, and two blanks.
 pub(crate) fn push_number(out: &mut Vec<u8>, number: usize) -> Result<(), AllocError>
-    ensures { OnOk result (out.new.items ≡ out.old.items ++ (in_four number ++ codes "  ")) }
+    ensures { OnOk result (out.new.items ≡ out.old.items ++ (on_right 4 number ++ codes "  ")) }
 {
-    push_in_four(out, number)?;
+    push_on_right(out, 4, number)?;
     out.extend_from_slice(b"  ")
 }
 
@@ -80,13 +62,6 @@ pub(crate) fn push_around(
     out.extend_from_slice(before)?;
     push_instruction(out, document, n)?;
     out.extend_from_slice(after)
-}
-
-/// A register.
-pub(crate) fn push_register(out: &mut Vec<u8>, which: Reg) -> Result<(), AllocError>
-    ensures { OnOk result (out.new.items ≡ out.old.items ++ register which) }
-{
-    push_field(out, bank_name(which.bank()), which.digit() as usize)
 }
 
 /// The name of a kind of unit.

@@ -4,7 +4,7 @@ use Rattle.s66_model.specs.Timing.{Problem}
 use Rattle.s66_moments.specs.declared.moment.Moment.TheVariants.{Origin, End}
 use Rattle.s66_cert.specs.DocumentParts.{document_of}
 use Rattle.s66_reasons.specs.declared.work.Work.{Work}
-use Rattle.s66_reasons.specs.Words.{in_four}
+use Rattle.s66_why.specs.Why.{on_right}
 use Rattle.s66_reasons.specs.FactWords.{load_end, load_sentence, work_of_load}
 use Rattle.s66_reasons.proofs.Texts.{row-pushed}
 use Rattle.s66_reasons.proofs.leaf.push_left_row.Goals as goal
@@ -17,7 +17,7 @@ returns c =
     let after = c.args.after in
     let ns : List ℕ = c.args.numbers.now in
     let bound : c.bound-bound.result ≡ d.bound = c.bound-bound.ensures in
-    let row : ℕ → List ℕ → List ℕ = λ k ws. out ++ (in_four k ++ codes "  " ++ ws ++ codes "\n") in
+    let row : ℕ → List ℕ → List ℕ = λ k ws. out ++ (on_right 4 k ++ codes "  " ++ ws ++ codes "\n") in
     let said : Problem → Work → ℕ → List ℕ = λ p w k. row (load_end w after k (length ns)) (load_sentence p Origin End after k ns) in
     let ended : OnOk c.extend_from_slice.result (c.extend_from_slice.new.self.items ≡ c.push_load_sentence.new.out.items ++ codes "\n") = search rules in
     IfOk-equal c.extend_from_slice.result _ _ _

@@ -6,7 +6,7 @@ use Rattle.s66_model.specs.LegalOrder.{sum_remaining}
 use Rattle.s66_model.specs.Leaves.{if_last, tail}
 use Rattle.s66_cert.specs.DocumentParts.{document_of}
 use Rattle.s66_checker.specs.Verdict.{problem_of}
-use Rattle.s66_reasons.specs.Words.{in_four}
+use Rattle.s66_why.specs.Why.{on_right}
 use Rattle.s66_reasons.specs.Reasons.{if_last_words, last_slot}
 use Rattle.s66_reasons.proofs.Texts.{row-pushed}
 use Rattle.s66_reasons.proofs.parcels.push_last.Goals as goal
@@ -30,5 +30,5 @@ returns c =
     let ended : OnOk c.extend_from_slice.result (c.extend_from_slice.new.self.items ≡ c.push_if_last.new.out.items ++ codes "\n") = search rules in
     IfOk-equal c.extend_from_slice.result _ _ _
     (row-pushed c.extend_from_slice.result c.args.out.now.items _ _ _ (if_last_words d n slot time) (slot + time) c.in_ok-push_number.ensures c.in_ok-push_if_last.ensures ended)
-    (ap (λ k. c.args.out.now.items ++ (in_four k ++ codes "  " ++ if_last_words d n slot time ++ codes "\n")) number
-    ∙ ap (λ (ws : List ℕ). c.args.out.now.items ++ (in_four (if_last b at n) ++ codes "  " ++ ws ++ codes "\n")) words)
+    (ap (λ k. c.args.out.now.items ++ (on_right 4 k ++ codes "  " ++ if_last_words d n slot time ++ codes "\n")) number
+    ∙ ap (λ (ws : List ℕ). c.args.out.now.items ++ (on_right 4 (if_last b at n) ++ codes "  " ++ ws ++ codes "\n")) words)

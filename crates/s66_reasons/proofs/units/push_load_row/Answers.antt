@@ -3,7 +3,8 @@ use Rattle.std.proofs.lemmas.Result.{IfOk-equal}
 use Rattle.s66_model.specs.Timing.{Problem, copies, next}
 use Rattle.s66_model.specs.Leaves.{load}
 use Rattle.s66_cert.specs.DocumentParts.{document_of}
-use Rattle.s66_reasons.specs.Words.{in_four, longest_use}
+use Rattle.s66_reasons.specs.Words.{longest_use}
+use Rattle.s66_why.specs.Why.{on_right}
 use Rattle.s66_reasons.specs.Reasons.{after_words, load_words, numbers_of, slot_after, work, work_before}
 use Rattle.s66_reasons.proofs.Texts.{row-pushed}
 use Rattle.s66_reasons.proofs.units.push_load_row.Goals as goal
@@ -31,7 +32,7 @@ returns c =
     ∙ ap (λ k. said p (slot_after p at) k c.longest_use-most.result given) c.remaining_work-total.ensures.value
     ∙ ap (λ k. said p (slot_after p at) (work p at kind) k given) c.longest_use-most.ensures
     ∙ ap (λ (ns : List ℕ). said p (slot_after p at) (work p at kind) (longest_use p ns) ns) c.requires.numbers in
-    let row : Problem → ℕ → List ℕ → List ℕ = λ (b : Problem) k ws. out ++ (in_four k ++ codes "  " ++ ws ++ codes "\n") in
+    let row : Problem → ℕ → List ℕ → List ℕ = λ (b : Problem) k ws. out ++ (on_right 4 k ++ codes "  " ++ ws ++ codes "\n") in
     let both = c.in_ok-push_after.ensures ∙ ap (λ xs. xs ++ after_words total (work_before p at kind) slot) c.in_ok-push_load_words.ensures
     ∙ append_assoc _ (load_words d slot kind c.copies-copies.result total c.longest_use-most.result given) (after_words total (work_before p at kind) slot) in
     let ended : OnOk c.extend_from_slice.result (c.extend_from_slice.new.self.items ≡ c.push_after.new.out.items ++ codes "\n") = search rules in
