@@ -22,7 +22,7 @@ pub record Looks (old new : Searching) : Type 0 where
   pub most : new.most ≡ old.most
 
 -- with no more splits than it may make
-pub record GoesOn (old new : Searching) : Type 0 where
+pub record SearchGoesOn (old new : Searching) : Type 0 where
   pub best : IsNoSlower old.best new.best
   pub splits : old.splits ≤ old.most → new.splits ≤ old.most
   pub most : new.most ≡ old.most

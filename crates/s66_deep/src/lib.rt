@@ -26,4 +26,4 @@ pub use facts::Finder;
 pub use floors::{Left, PathBounds, Tails};
 pub use look::{Look, Looked, look_at, show_best};
 pub use orders::faster;
-pub use walk::Prefix;
+pub use walk::PathWalk;

@@ -60,7 +60,7 @@ pub(crate) const SHORT_COUNT: usize = 48;
 pub(crate) const FIRST_SHARE: u32 = 16;
 
 /// The most prefixes that a best-first search keeps to compare others with.
-pub(crate) const KEPT_LIMIT: usize = 262_144;
+pub(crate) const TRANSPOSITIONS_LIMIT: usize = 262_144;
 
 /// At how many of them one look for a prefix goes at most.
 pub(crate) const LOOK_LIMIT: usize = 64;

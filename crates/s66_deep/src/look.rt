@@ -11,7 +11,7 @@ use crate::facts::Finder;
 use crate::instance::Instance;
 use crate::lines::best_by_beams;
 use crate::orders::{faster, source_order};
-use crate::search::{Searched, Tried, Written, search, show};
+use crate::search::{Attempt, Searched, Written, search, show};
 use s66_cert::Evidence;
 use s66_isa::Profile;
 use s66_line::Block;
@@ -125,7 +125,7 @@ pub fn show_best(
         profile,
     };
     let finder = Finder::new(alloc, block, profile)?;
-    let Tried {
+    let Attempt {
         best,
         splits,
         shown,

@@ -59,7 +59,7 @@ struct Goal {
 
 /// What a search of so many splits found: the best order, and what suppositions or its tree show, if that is more than was known.
 #[derive(Drop)]
-pub(crate) struct Tried {
+pub(crate) struct Attempt {
     pub(crate) best: Timed,
     pub(crate) splits: u32,
     pub(crate) shown: Option<Shown>,
@@ -129,10 +129,10 @@ fn search_below(
     below: Finder,
     best: Timed,
     goal: Goal,
-) -> Result<Tried, AllocError>
+) -> Result<Attempt, AllocError>
     requires { IsGood instance.now best }
-    ensures best { IfOk result (λ tried. IsGood instance.now tried.best) }
-    ensures splits { IfOk result (λ tried. tried.splits ≤ goal.splits) }
+    ensures best { IfOk result (λ attempt. IsGood instance.now attempt.best) }
+    ensures splits { IfOk result (λ attempt. attempt.splits ≤ goal.splits) }
 {
     let limits = Limits {
         below: goal.limit,
@@ -163,7 +163,7 @@ fn search_below(
         })),
         None => None,
     };
-    Ok(Tried {
+    Ok(Attempt {
         best: faster(best, Some(other)),
         splits,
         shown,
@@ -216,16 +216,16 @@ fn suppose_and_search(
     best: Timed,
     goal: Goal,
     suppositions: &mut u32,
-) -> Result<Tried, AllocError>
+) -> Result<Attempt, AllocError>
     requires { IsGood instance.now best }
-    ensures best { IfOk result (λ tried. IsGood instance.now tried.best) }
-    ensures splits { IfOk result (λ tried. tried.splits ≤ goal.splits) }
+    ensures best { IfOk result (λ attempt. IsGood instance.now attempt.best) }
+    ensures splits { IfOk result (λ attempt. attempt.splits ≤ goal.splits) }
 {
     let mut below = below;
     if below.root().1 < goal.limit
         && let Some(written) = by_short_root(instance, &below, goal.limit)?
     {
-        return Ok(Tried {
+        return Ok(Attempt {
             best,
             splits: 0,
             shown: Some(Shown::ByTree(written)),
@@ -233,7 +233,7 @@ fn suppose_and_search(
     }
     *suppositions = below.suppose_below(goal.limit, *suppositions)?;
     if goal.limit <= below.root().1 {
-        return Ok(Tried {
+        return Ok(Attempt {
             best,
             splits: 0,
             shown: Some(Shown::ByLeaf(Bound {
@@ -254,17 +254,17 @@ fn try_above(
     bound: u32,
     splits: u32,
     suppositions: &mut u32,
-) -> Result<Tried, AllocError>
+) -> Result<Attempt, AllocError>
     requires { IsGood instance.now best }
-    ensures best { IfOk result (λ tried. IsGood instance.now tried.best) }
-    ensures splits { IfOk result (λ tried. tried.splits ≤ splits) }
+    ensures best { IfOk result (λ attempt. IsGood instance.now attempt.best) }
+    ensures splits { IfOk result (λ attempt. attempt.splits ≤ splits) }
 {
     let limit = bound.saturating_add(1);
     let below = found_below(finder, limit)?;
     let other = beam_by(instance, &below, WIDE_WIDTH, limit)?;
     let best = faster(best, other);
     if best.total() <= bound {
-        return Ok(Tried {
+        return Ok(Attempt {
             best,
             splits: 0,
             shown: None,
@@ -303,10 +303,10 @@ fn raise(
             break;
         }
         let left = most.saturating_sub(made);
-        let tried = try_above(instance, finder, best, bound, left, suppositions)?;
-        best = tried.best;
-        made = made.saturating_add(tried.splits);
-        shown = shown.or_more(tried.shown);
+        let attempt = try_above(instance, finder, best, bound, left, suppositions)?;
+        best = attempt.best;
+        made = made.saturating_add(attempt.splits);
+        shown = shown.or_more(attempt.shown);
         if shown.bound() <= bound {
             break;
         }
@@ -347,11 +347,11 @@ fn search_lines(
         bound,
         splits: most,
     };
-    let tried = suppose_and_search(instance, below, best, goal, suppositions)?;
+    let attempt = suppose_and_search(instance, below, best, goal, suppositions)?;
     Ok(Searched {
-        best: tried.best,
-        shown: shown.or_more(tried.shown),
-        splits: splits.saturating_add(tried.splits),
+        best: attempt.best,
+        shown: shown.or_more(attempt.shown),
+        splits: splits.saturating_add(attempt.splits),
     })
 }
 
@@ -433,10 +433,10 @@ pub(crate) fn show(
     finder: &Finder,
     best: Timed,
     most: u32,
-) -> Result<Tried, AllocError>
+) -> Result<Attempt, AllocError>
     requires { IsGood instance.now best }
-    ensures best { IfOk result (λ tried. IsGood instance.now tried.best) }
-    ensures splits { IfOk result (λ tried. tried.splits ≤ most) }
+    ensures best { IfOk result (λ attempt. IsGood instance.now attempt.best) }
+    ensures splits { IfOk result (λ attempt. attempt.splits ≤ most) }
 {
     let total = best.total();
     let below = found_below(finder, total)?;

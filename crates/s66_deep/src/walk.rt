@@ -1,4 +1,4 @@
-//! A walk over beginnings (`Prefix`), as that of `s66_node`, which keeps also what remains by rank, for the longest paths of `floors/`.
+//! A walk over beginnings (`PathWalk`), as that of `s66_node`, which keeps also what remains by rank, for the longest paths of `floors/`.
 
 ghost use Rattle.std.specs.Prelude.{◌≡◌};
 
@@ -12,14 +12,14 @@ use std::marker::Model;
 
 /// A walk over the beginnings of a block's legal orders, with the greatest paths of what remains after its prefix.
 #[derive(Drop)]
-pub struct Prefix<'a> {
+pub struct PathWalk<'a> {
     walk: Walk<'a>,
     paths: PathBounds<'a>,
     /// What remains, by the ranks of what follows.
     left: Left,
 }
 
-impl<'a> Model for Prefix<'a> {
+impl<'a> Model for PathWalk<'a> {
     ghost use Rattle.std.specs.Prelude.{◌≡◌, length};
     ghost use Rattle.s66_node.specs.Walked.{Walked};
 
@@ -30,7 +30,7 @@ impl<'a> Model for Prefix<'a> {
     ghost invariant = { λ p. p.paths ≡ length p.walk.problem.block };
 }
 
-impl<'a> Prefix<'a> {
+impl<'a> PathWalk<'a> {
     ghost use Rattle.std.specs.Prelude.{◌≡◌, ◌<◌, ◌++◌, [], ◌∷◌, true, IfSome, length};
     ghost use Rattle.s66_line.specs.Block.{instrs_of};
     ghost use Rattle.s66_model.specs.LegalOrder.{is_ready, IsIncomplete};
@@ -38,13 +38,17 @@ impl<'a> Prefix<'a> {
     ghost use Rattle.s66_model.specs.Lines.{vertex_of, IsShort};
 
     /// The empty one, with what follows the stages of each number, n at place n - 1: in time quadratic in the block's length.
-    pub fn new(block: &'a Block<'a>, profile: &Profile, tails: &[Tails; BLOCK_LIMIT]) -> Prefix<'a>
+    pub fn new(
+        block: &'a Block<'a>,
+        profile: &Profile,
+        tails: &[Tails; BLOCK_LIMIT],
+    ) -> PathWalk<'a>
         ensures { result ≡
             record { problem = record { block = instrs_of block.now; profile = profile.now }; numbers = [] } }
     {
         let paths = PathBounds::new(block, profile, tails);
         let left = paths.left_after(&Set::empty());
-        Prefix {
+        PathWalk {
             walk: Walk::new(block, profile),
             paths,
             left,

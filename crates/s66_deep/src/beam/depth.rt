@@ -5,7 +5,7 @@
 use crate::beam::child::{Child, Rank};
 use crate::beam::merit::Merit;
 use crate::facts::copy_of;
-use crate::walk::Prefix;
+use crate::walk::PathWalk;
 use arrayvec::ArrayVec;
 use s66_isa::{BLOCK_LIMIT, Set};
 use s66_time::{Mark, dominates_clamped};
@@ -50,7 +50,7 @@ impl Beginning {
 
 /// Adds the children of this prefix, one of these kept ones, whose floors are below the best.
 fn push_children(
-    prefix: &mut Prefix<'_>,
+    prefix: &mut PathWalk<'_>,
     parent: usize,
     floor: u32,
     best: u32,
@@ -88,7 +88,7 @@ fn is_dominated(seen: &[Seen], other: &Seen) -> bool {
 /// The children of the first `width` of these that aren't dominated by one before.
 fn children_of(
     alloc: Global,
-    prefix: &mut Prefix<'_>,
+    prefix: &mut PathWalk<'_>,
     kept: &[Beginning],
     width: usize,
     best: u32,
@@ -170,7 +170,7 @@ fn best_of(
 /// these the first `width` go on that aren't dominated; twice as many are kept, as some will be.
 pub(crate) fn next_depth(
     alloc: Global,
-    prefix: &mut Prefix<'_>,
+    prefix: &mut PathWalk<'_>,
     kept: &[Beginning],
     width: usize,
     best: u32,

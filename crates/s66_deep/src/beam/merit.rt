@@ -1,6 +1,6 @@
 //! How promising a beginning is: its floor first, and then how far its instructions reach.
 
-use crate::walk::Prefix;
+use crate::walk::PathWalk;
 use s66_isa::KINDS;
 use s66_time::Clock;
 
@@ -33,7 +33,7 @@ fn lateness(clock: &Clock<'_>) -> u32 {
 
 impl Merit {
     /// How promising a prefix is: its floor, no less than this one, and how far its instructions reach.
-    pub(crate) fn of(prefix: &Prefix<'_>, floor: u32) -> Merit {
+    pub(crate) fn of(prefix: &PathWalk<'_>, floor: u32) -> Merit {
         let clock = prefix.walk().clock();
         let least = if prefix.walk().is_complete() {
             clock.total()

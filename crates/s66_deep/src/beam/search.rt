@@ -7,7 +7,7 @@ ghost use Rattle.s66_model.specs.Timing.{total_of};
 use crate::beam::depth::{Beginning, next_depth};
 use crate::floors::Tails;
 use crate::orders::timed_below;
-use crate::walk::Prefix;
+use crate::walk::PathWalk;
 use s66_isa::{BLOCK_LIMIT, Profile};
 use s66_line::Block;
 use s66_time::Timed;
@@ -34,7 +34,7 @@ pub fn beam_below(
         (λ timed. timed.problem ≡ record { block = instrs_of block.now; profile = profile.now })) }
     ensures below { IfOk result (λ found. IfSome found (λ timed. total_of timed.problem timed.numbers < best)) }
 {
-    let mut prefix = Prefix::new(block, profile, tails);
+    let mut prefix = PathWalk::new(block, profile, tails);
     let mut kept = Vec::new(alloc);
     kept.push(Beginning::empty())?;
     for _ in 0..block.count() {

@@ -5,7 +5,6 @@
 mod allowed;
 mod begun;
 mod instructions;
-mod kept;
 mod loads;
 mod nodes;
 mod open;
@@ -13,6 +12,7 @@ mod remaining;
 mod root;
 mod search;
 mod trail;
+mod transpositions;
 mod waits;
 mod writer;
 

@@ -25,7 +25,7 @@ pub(crate) enum Fate {
 
 /// A prefix that a search has met: that of its parent, and one number more.
 #[derive(Clone, Copy)]
-pub(crate) struct Node {
+pub(crate) struct SearchNode {
     /// The index of the parent; the root is its own.
     pub(crate) parent: u32,
     pub(crate) number: u8,
@@ -39,14 +39,14 @@ pub(crate) struct Node {
 /// The nodes, in sixteen bytes each. A parent stands before its children, and these stand side by side.
 #[derive(Drop)]
 pub(crate) struct Nodes {
-    nodes: Vec<Node>,
+    nodes: Vec<SearchNode>,
 }
 
 impl Nodes {
     /// The root alone.
     pub(crate) fn new(alloc: Global) -> Result<Nodes, AllocError> {
         let mut nodes = Vec::new(alloc);
-        nodes.push(Node {
+        nodes.push(SearchNode {
             parent: ROOT,
             number: 0,
             depth: 0,
@@ -62,12 +62,12 @@ impl Nodes {
     }
 
     /// The node at an index.
-    pub(crate) fn at(&self, index: u32) -> Option<Node> {
+    pub(crate) fn at(&self, index: u32) -> Option<SearchNode> {
         self.nodes.get(index as usize).copied()
     }
 
     /// Appends a node.
-    pub(crate) fn push(&mut self, node: Node) -> Result<(), AllocError> {
+    pub(crate) fn push(&mut self, node: SearchNode) -> Result<(), AllocError> {
         self.nodes.push(node)?;
         Ok(())
     }

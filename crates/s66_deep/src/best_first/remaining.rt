@@ -6,14 +6,14 @@ use crate::best_first::waits::{READERS_AT, REFERENCES_AT, STORES_AT, UNITS_AT};
 use s66_isa::{KINDS, Row, Set};
 use s66_time::Clock;
 
-/// When an instruction looks at a word.
+/// What an instruction waits to do when it looks at a word.
 #[derive(Clone, Copy)]
-enum Look {
-    /// As it issues.
+enum WaitsTo {
+    /// To issue.
     Issue,
-    /// As it starts.
+    /// To start.
     Start,
-    /// As its result in the register of this index is done.
+    /// To write its result into the register of this index.
     Result(usize),
 }
 
@@ -97,23 +97,23 @@ impl<'s, 'a> Remaining<'s, 'a> {
     }
 
     /// The soonest look of n; 0 if the block has no such number.
-    fn moment(&self, n: u8, look: Look) -> u32 {
+    fn moment(&self, n: u8, to: WaitsTo) -> u32 {
         let Some(row) = self.instructions.row(n) else {
             return 0;
         };
-        match look {
-            Look::Issue => self.issue(n, row),
-            Look::Start => self.start(n, row),
-            Look::Result(register) => self.result(n, row, register),
+        match to {
+            WaitsTo::Issue => self.issue(n, row),
+            WaitsTo::Start => self.start(n, row),
+            WaitsTo::Result(register) => self.result(n, row, register),
         }
     }
 
     /// The soonest look of any of these numbers that remains; the greatest number if none does.
-    fn soonest(&self, numbers: &Set, look: Look) -> u32 {
+    fn soonest(&self, numbers: &Set, to: WaitsTo) -> u32 {
         let mut rest = numbers.both(&self.numbers);
         let mut soonest = u32::MAX;
         while let Some(n) = rest.pop_first() {
-            soonest = soonest.min(self.moment(n, look));
+            soonest = soonest.min(self.moment(n, to));
         }
         soonest
     }
@@ -123,8 +123,8 @@ impl<'s, 'a> Remaining<'s, 'a> {
         requires { register < REGISTER_COUNT }
     {
         let instructions = self.instructions;
-        let written = self.soonest(&instructions.writers[register], Look::Issue);
-        written.min(self.soonest(&instructions.readers[register], Look::Start))
+        let written = self.soonest(&instructions.writers[register], WaitsTo::Issue);
+        written.min(self.soonest(&instructions.readers[register], WaitsTo::Start))
     }
 
     /// The soonest moment at which a number that remains looks at the word at a place; the greatest number if none does.
@@ -136,16 +136,16 @@ impl<'s, 'a> Remaining<'s, 'a> {
             return self.soonest_use(place);
         }
         if place == STORES_AT {
-            return self.soonest(&instructions.loads, Look::Start);
+            return self.soonest(&instructions.loads, WaitsTo::Start);
         }
         if place == REFERENCES_AT {
-            return self.soonest(&instructions.stores, Look::Start);
+            return self.soonest(&instructions.stores, WaitsTo::Start);
         }
         if place < READERS_AT {
             let takers = instructions.takers(KINDS[(place - UNITS_AT) / 2]);
-            return self.soonest(&takers, Look::Issue);
+            return self.soonest(&takers, WaitsTo::Issue);
         }
         let register = place - READERS_AT;
-        self.soonest(&instructions.writers[register], Look::Result(register))
+        self.soonest(&instructions.writers[register], WaitsTo::Result(register))
     }
 }

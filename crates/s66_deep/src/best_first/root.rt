@@ -4,7 +4,7 @@ use crate::best_first::instructions::Instructions;
 use crate::best_first::loads::Loads;
 use crate::best_first::writer::Leaves;
 use crate::facts::Finder;
-use crate::walk::Prefix;
+use crate::walk::PathWalk;
 use s66_isa::Profile;
 use s66_line::Block;
 use s66_model::Tree;
@@ -28,7 +28,7 @@ pub(crate) fn root_leaf(
         loads: Loads::of(alloc, &instructions, &tails)?,
         low,
     };
-    let prefix = Prefix::new(block, profile, &tails);
+    let prefix = PathWalk::new(block, profile, &tails);
     let mut tree = Tree::new(alloc);
     if leaves.write(&prefix, &mut tree)? {
         Ok(Some(tree))

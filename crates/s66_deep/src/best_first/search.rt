@@ -11,16 +11,16 @@ ghost use Rattle.s66_model.specs.Timing.{total_of};
 ghost use Rattle.s66_deep.specs.Branching.{IsNoSlower};
 
 use crate::best_first::instructions::Instructions;
-use crate::best_first::kept::{Kept, Key, Sought};
 use crate::best_first::loads::Loads;
-use crate::best_first::nodes::{Fate, Node, Nodes, ROOT};
+use crate::best_first::nodes::{Fate, Nodes, ROOT, SearchNode};
 use crate::best_first::open::{Next, Open};
 use crate::best_first::remaining::Remaining;
 use crate::best_first::trail::Trail;
+use crate::best_first::transpositions::{Key, Probe, Transpositions};
 use crate::best_first::waits::{Waits, word};
 use crate::best_first::writer::{Leaves, written};
 use crate::facts::Finder;
-use crate::walk::Prefix;
+use crate::walk::PathWalk;
 use s66_isa::{BLOCK_LIMIT, Profile};
 use s66_line::Block;
 use s66_model::Tree;
@@ -59,9 +59,9 @@ pub struct Limits {
     pub first_line: u32,
 }
 
-/// What a prefix is found to be: its fate, and if it is open its floor, in minor cycles.
+/// What becomes of a prefix at which the search looks: its fate, or if it is open its floor, in minor cycles.
 #[derive(Clone, Copy)]
-enum Found {
+enum Outcome {
     Is(Fate),
     IsOpen(u32),
 }
@@ -74,7 +74,7 @@ struct Search<'a> {
     loads: Loads,
     nodes: Nodes,
     open: Open,
-    kept: Kept,
+    transpositions: Transpositions,
     splits: u32,
     /// The most splits.
     most: u32,
@@ -99,7 +99,7 @@ impl<'a> Model for Search<'a> {
 /// Keeps the whole order that a prefix is, if it is one and faster than the best.
 // few prefixes come here, and no other is to pay for its locals
 #[inline(never)]
-fn keep_faster(prefix: &Prefix<'_>, best: &mut Timed)
+fn keep_faster(prefix: &PathWalk<'_>, best: &mut Timed)
     requires { prefix.now.problem ≡ best.old.problem }
     ensures { IsNoSlower best.old best.new }
 {
@@ -111,12 +111,12 @@ fn keep_faster(prefix: &Prefix<'_>, best: &mut Timed)
 impl<'a> Search<'a> {
     ghost use Rattle.std.specs.Prelude.{◌≡◌, ◌≤◌, ◌<◌};
     ghost use Rattle.s66_isa.specs.declared.limits.TheConstants.{BLOCK_LIMIT};
-    ghost use Rattle.s66_deep.specs.Branching.{GoesOn, Looks};
+    ghost use Rattle.s66_deep.specs.Branching.{SearchGoesOn, Looks};
 
     /// The prefix at which the trail is, as that of a node: the place in its word of its next parcel, and its floor.
-    fn sought(&self, node: u32, place: u8, floor: u32) -> Sought {
+    fn probe(&self, node: u32, place: u8, floor: u32) -> Probe {
         let clock = self.trail.prefix.walk().clock();
-        Sought {
+        Probe {
             key: Key {
                 pushed: clock.pushed(),
                 node,
@@ -129,13 +129,13 @@ impl<'a> Search<'a> {
         }
     }
 
-    /// What becomes of the prefix at which the trail is, if another one that is kept dominates it.
-    fn dominated(&self, sought: &Sought) -> Option<Fate> {
+    /// What becomes of the prefix at which the trail is, if another one in the table dominates it.
+    fn dominated(&self, probe: &Probe) -> Option<Fate> {
         let remaining = Remaining::new(&self.instructions, self.trail.prefix.walk().clock());
-        let other = self.kept.find(&self.nodes, &remaining, sought)?;
+        let other = self.transpositions.find(&self.nodes, &remaining, probe)?;
         Some(Fate::Dominated {
             other,
-            floor: word(sought.floor),
+            floor: word(probe.floor),
         })
     }
 
@@ -148,26 +148,27 @@ impl<'a> Search<'a> {
         missing.pop_first()
     }
 
-    /// Finds what the prefix of a new node is, whose next parcel has this place in its word, and keeps it if it is open. A whole order that
+    /// Finds what the prefix of a new node is, whose next parcel has this place in its word, and stores it in the table if it is open. A whole order that
     /// is faster is the best from then on.
-    fn look(&mut self, node: u32, place: u8) -> Result<Found, AllocError>
+    fn look(&mut self, node: u32, place: u8) -> Result<Outcome, AllocError>
         ensures { Looks self.old self.new }
     {
         if self.trail.prefix.walk().is_complete() {
             keep_faster(&self.trail.prefix, &mut self.best);
             self.low = self.low.min(self.best.total());
-            return Ok(Found::Is(Fate::Closed));
+            return Ok(Outcome::Is(Fate::Closed));
         }
         let floor = self.trail.prefix.floor();
         if self.low <= floor {
-            return Ok(Found::Is(Fate::Closed));
+            return Ok(Outcome::Is(Fate::Closed));
         }
-        let sought = self.sought(node, place, floor);
-        if let Some(fate) = self.dominated(&sought) {
-            return Ok(Found::Is(fate));
+        let probe = self.probe(node, place, floor);
+        if let Some(fate) = self.dominated(&probe) {
+            return Ok(Outcome::Is(fate));
         }
-        self.kept.keep(&sought, self.trail.prefix.walk().clock())?;
-        Ok(Found::IsOpen(floor))
+        self.transpositions
+            .store(&probe, self.trail.prefix.walk().clock())?;
+        Ok(Outcome::IsOpen(floor))
     }
 
     /// Adds the child of a node with a number that is ready, to which the trail goes and back, and returns whether it could. The place is
@@ -183,18 +184,18 @@ impl<'a> Search<'a> {
         }
         let depth = self.trail.prefix.depth();
         let found = match missing {
-            Some(other) => Found::Is(Fate::Turned(other)),
+            Some(other) => Outcome::Is(Fate::Turned(other)),
             None => self.look(index, place)?,
         };
         self.trail.prefix.undo();
         let fate = match found {
-            Found::Is(fate) => fate,
-            Found::IsOpen(floor) => {
+            Outcome::Is(fate) => fate,
+            Outcome::IsOpen(floor) => {
                 self.open.push(index, depth, floor)?;
                 Fate::Open
             }
         };
-        self.nodes.push(Node {
+        self.nodes.push(SearchNode {
             parent,
             number: n,
             depth,
@@ -207,7 +208,7 @@ impl<'a> Search<'a> {
     /// Adds the children of a node, at which the trail is, and returns whether it could. Its next parcel has this place in its word.
     fn split(&mut self, node: u32, place: u8) -> Result<bool, AllocError>
         requires { self.old.splits < self.old.most }
-        ensures { GoesOn self.old self.new }
+        ensures { SearchGoesOn self.old self.new }
     {
         let first = self.nodes.len();
         let ready = self.trail.prefix.ready().numbers();
@@ -224,10 +225,10 @@ impl<'a> Search<'a> {
     }
 
     /// What closes an open node at which the trail is, if anything does now: a prefix that was met since then and dominates it, or a load.
-    fn closed(&mut self, sought: &Sought) -> Option<Fate>
+    fn closed(&mut self, probe: &Probe) -> Option<Fate>
         ensures { Looks self.old self.new }
     {
-        if let Some(fate) = self.dominated(sought) {
+        if let Some(fate) = self.dominated(probe) {
             return Some(fate);
         }
         let clock = self.trail.prefix.walk().clock();
@@ -239,7 +240,7 @@ impl<'a> Search<'a> {
 
     /// Splits an open node, unless something closes it now, and returns whether it could: it can't once all splits are made.
     fn take(&mut self, next: &Next) -> Result<bool, AllocError>
-        ensures { GoesOn self.old self.new }
+        ensures { SearchGoesOn self.old self.new }
     {
         let Some(own) = self.nodes.at(next.node) else {
             return Ok(false);
@@ -247,8 +248,8 @@ impl<'a> Search<'a> {
         if !self.trail.go_to(&self.nodes, next.node) {
             return Ok(false);
         }
-        let sought = self.sought(next.node, own.place, next.floor);
-        if let Some(fate) = self.closed(&sought) {
+        let probe = self.probe(next.node, own.place, next.floor);
+        if let Some(fate) = self.closed(&probe) {
             self.nodes.set_fate(next.node, fate);
             return Ok(true);
         }
@@ -266,7 +267,7 @@ impl<'a> Search<'a> {
     /// Goes on until no open node's floor is so low that a faster order may begin so, an order is enough, or a node has to be split when
     /// all splits are made. What each order takes at least then, in minor cycles.
     fn run(&mut self) -> Result<u32, AllocError>
-        ensures { GoesOn self.old self.new }
+        ensures { SearchGoesOn self.old self.new }
     {
         let looks = LOOKS * (u64::from(self.most) + 1);
         let mut bound = 0;
@@ -289,7 +290,7 @@ impl<'a> Search<'a> {
     fn open_root(&mut self) -> Result<(), AllocError>
         ensures { Looks self.old self.new }
     {
-        if let Found::IsOpen(floor) = self.look(ROOT, 0)? {
+        if let Outcome::IsOpen(floor) = self.look(ROOT, 0)? {
             self.open.push(ROOT, 0, floor)?;
         }
         Ok(())
@@ -326,12 +327,12 @@ pub fn branch(
     let instructions = Instructions::new(finder);
     let tails = finder.tails();
     let mut search = Search {
-        trail: Trail::new(Prefix::new(block, profile, &tails)),
+        trail: Trail::new(PathWalk::new(block, profile, &tails)),
         loads: Loads::of(alloc, &instructions, &tails)?,
         instructions,
         nodes: Nodes::new(alloc)?,
         open: Open::new(alloc),
-        kept: Kept::new(alloc, profile),
+        transpositions: Transpositions::new(alloc, profile),
         splits: 0,
         most: limits.splits,
         low: limits.below.min(best.total()),
@@ -347,14 +348,14 @@ pub fn branch(
         loads,
         nodes,
         open,
-        kept,
+        transpositions,
         splits,
         best,
         ..
     } = search;
     // a tree needs as much room as these
     drop(open);
-    drop(kept);
+    drop(transpositions);
     if !shows_more {
         return Ok(Branched {
             best,

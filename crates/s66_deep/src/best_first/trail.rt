@@ -5,7 +5,7 @@ ghost use Rattle.std.specs.Prelude.{◌≡◌};
 ghost use Rattle.s66_isa.specs.declared.limits.TheConstants.{BLOCK_LIMIT};
 
 use crate::best_first::nodes::{Nodes, ROOT};
-use crate::walk::Prefix;
+use crate::walk::PathWalk;
 use arrayvec::ArrayVec;
 use s66_isa::BLOCK_LIMIT;
 use std::marker::Model;
@@ -16,7 +16,7 @@ const TRAIL_LIMIT: usize = BLOCK_LIMIT + 1;
 /// A prefix, and the nodes below the root of those that it begins with, the last of which is its own.
 #[derive(Drop)]
 pub(crate) struct Trail<'a> {
-    pub(crate) prefix: Prefix<'a>,
+    pub(crate) prefix: PathWalk<'a>,
     nodes: ArrayVec<u32, TRAIL_LIMIT>,
 }
 
@@ -32,7 +32,7 @@ impl<'a> Trail<'a> {
     ghost use Rattle.std.specs.Prelude.{◌≡◌};
 
     /// At the root.
-    pub(crate) fn new(prefix: Prefix<'a>) -> Trail<'a>
+    pub(crate) fn new(prefix: PathWalk<'a>) -> Trail<'a>
         ensures { result ≡ prefix.entry.problem }
     {
         Trail {

@@ -5,9 +5,9 @@ ghost use Rattle.std.specs.Prelude.{◌≡◌};
 
 use crate::best_first::instructions::Instructions;
 use crate::best_first::loads::Loads;
-use crate::best_first::nodes::{Fate, Node, Nodes, ROOT};
+use crate::best_first::nodes::{Fate, Nodes, ROOT, SearchNode};
 use crate::best_first::trail::Trail;
-use crate::walk::Prefix;
+use crate::walk::PathWalk;
 use s66_isa::BLOCK_LIMIT;
 use s66_model::{FactLeaf, Tree, TreeLine};
 use std::alloc::{AllocError, Global};
@@ -49,7 +49,7 @@ fn lines_of(alloc: Global, nodes: &Nodes, first_line: u32) -> Result<Vec<u32>, A
     lines.resize(sizes.len(), first_line)?;
     for index in 0..nodes.len() {
         if let Some(
-            Node {
+            SearchNode {
                 fate: Fate::Split { first, count },
                 ..
             },
@@ -102,7 +102,7 @@ impl Leaves<'_> {
     /// Writes the leaf of a prefix, if it has one: it is a whole order, a bound is so great at least, or a load closes it.
     pub(crate) fn write(
         &mut self,
-        prefix: &Prefix<'_>,
+        prefix: &PathWalk<'_>,
         tree: &mut Tree,
     ) -> Result<bool, AllocError> {
         if prefix.walk().is_complete() {
@@ -142,7 +142,12 @@ impl Writer<'_, '_> {
     }
 
     /// Writes the line of a node, if it has one.
-    fn write(&mut self, trail: &mut Trail<'_>, index: u32, node: &Node) -> Result<bool, AllocError>
+    fn write(
+        &mut self,
+        trail: &mut Trail<'_>,
+        index: u32,
+        node: &SearchNode,
+    ) -> Result<bool, AllocError>
         ensures { trail.new ≡ trail.old }
     {
         match node.fate {

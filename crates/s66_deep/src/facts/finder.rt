@@ -15,7 +15,7 @@ use crate::facts::sketch::Sketch;
 use crate::facts::spans::{FROM_ORIGIN, Spans, TO_END, at_issue};
 use crate::facts::suppositions::Shaving;
 use crate::facts::taken::{Taken, word};
-use crate::facts::tried::Tried;
+use crate::facts::tried_loads::TriedLoads;
 use crate::facts::ways::Ways;
 use crate::floors::Tails;
 use crate::limits::{PASSES_LIMIT, ROUNDS_LIMIT, WAIT_LIMIT};
@@ -35,7 +35,7 @@ pub struct Finder {
     taken: Box<Taken>,
     found: Vec<Found>,
     ways: Ways,
-    tried: Tried,
+    tried: TriedLoads,
     /// The bound for which there is nothing more to be found, if there is one.
     settled: Option<u32>,
 }
@@ -148,7 +148,7 @@ impl Finder {
             ground,
             found: Vec::new(alloc),
             ways: Ways::new(alloc),
-            tried: Tried::new(alloc)?,
+            tried: TriedLoads::new(alloc)?,
             settled: None,
         })
     }

@@ -20,7 +20,7 @@ mod spans;
 mod suppositions;
 mod taken;
 mod trial;
-mod tried;
+mod tried_loads;
 mod uses;
 mod ways;
 

@@ -8,7 +8,7 @@ ghost use Rattle.s66_deep.specs.declared.limits.TheConstants.{TAIL_LIMIT};
 ghost use Rattle.s66_deep.specs.FollowingWords.{AreSmall, AreSmallWords, HasSmallWords, HasRanks};
 
 use crate::classes::{Class, Role, those_of, users_of};
-use crate::floors::tails::{Part, Tails};
+use crate::floors::tails::{Stage, Tails};
 use s66_isa::{BLOCK_LIMIT, KIND_COUNT, KINDS, REGISTER_COUNT, Reg, Row, Set};
 use s66_time::Ranking;
 
@@ -53,13 +53,13 @@ impl PathTables {
         ensures words { HasSmallWords result }
         ensures ranks { HasRanks (length rows.now) result }
     {
-        let by_issue = ranking_by(tails, Part::Issue, rows.len());
-        let by_start = ranking_by(tails, Part::Start, rows.len());
+        let by_issue = ranking_by(tails, Stage::Issue, rows.len());
+        let by_start = ranking_by(tails, Stage::Start, rows.len());
         PathTables {
             all: Set::up_to(rows.len()),
             tails: *tails,
-            first: column(tails, Part::First),
-            second: column(tails, Part::Second),
+            first: column(tails, Stage::First),
+            second: column(tails, Stage::Second),
             long: class_ranks(rows, &by_issue, &Class::Long),
             takers: takers_of(rows, &by_issue),
             writers: user_ranks(rows, &by_issue, Role::Writes),
@@ -74,26 +74,26 @@ impl PathTables {
     }
 }
 
-/// What follows a part of each number.
-fn column(tails: &[Tails; BLOCK_LIMIT], part: Part) -> [u32; BLOCK_LIMIT]
+/// What follows a stage of each number.
+fn column(tails: &[Tails; BLOCK_LIMIT], stage: Stage) -> [u32; BLOCK_LIMIT]
     requires { AreSmall tails.now }
     ensures { AreSmallWords result }
 {
     let mut words = [0; BLOCK_LIMIT];
     for place in 0..BLOCK_LIMIT {
-        words[place] = tails[place].after(part);
+        words[place] = tails[place].after(stage);
     }
     words
 }
 
-/// The numbers up to a count by what follows a part of them.
-fn ranking_by(tails: &[Tails; BLOCK_LIMIT], part: Part, count: usize) -> Ranking
+/// The numbers up to a count by what follows a stage of them.
+fn ranking_by(tails: &[Tails; BLOCK_LIMIT], stage: Stage, count: usize) -> Ranking
     requires few { count ≤ BLOCK_LIMIT }
     requires small { AreSmall tails.now }
     ensures ranking { (word : ℕ → ℕ) × IsRanking word count result }
     ensures at_most { AreAtMost TAIL_LIMIT result }
 {
-    Ranking::of(&column(tails, part), count)
+    Ranking::of(&column(tails, stage), count)
 }
 
 /// The ranks of the numbers of a class.

@@ -24,7 +24,7 @@ pub struct Tails {
 
 /// What the words of a clock are waited for with: an issue, a start, and the two results.
 #[derive(Clone, Copy)]
-pub(crate) enum Part {
+pub(crate) enum Stage {
     Issue,
     Start,
     First,
@@ -32,16 +32,16 @@ pub(crate) enum Part {
 }
 
 impl Tails {
-    /// What follows a part.
-    pub(crate) fn after(&self, part: Part) -> u32
+    /// What follows a stage.
+    pub(crate) fn after(&self, stage: Stage) -> u32
         requires { IsSmall self.now }
         ensures { result ≤ TAIL_LIMIT }
     {
-        match part {
-            Part::Issue => self.issue,
-            Part::Start => self.start,
-            Part::First => self.first,
-            Part::Second => self.second,
+        match stage {
+            Stage::Issue => self.issue,
+            Stage::Start => self.start,
+            Stage::First => self.first,
+            Stage::Second => self.second,
         }
     }
 

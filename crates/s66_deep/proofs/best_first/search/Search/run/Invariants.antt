@@ -1,5 +1,5 @@
-use Rattle.s66_deep.specs.Branching.{GoesOn}
+use Rattle.s66_deep.specs.Branching.{SearchGoesOn}
 use Rattle.s66_deep.proofs.best_first.search.Search.run.Given as goal
 
 abbrev pub invariant-loop : goal.invariant-loop
-invariant-loop l = GoesOn l.fn.self l.self
+invariant-loop l = SearchGoesOn l.fn.self l.self

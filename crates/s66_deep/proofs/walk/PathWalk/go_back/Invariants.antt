@@ -1,5 +1,5 @@
 use Rattle.std.proofs.Common.{◌≡◌}
-use Rattle.s66_deep.proofs.walk.Prefix.go_back.Given as goal
+use Rattle.s66_deep.proofs.walk.PathWalk.go_back.Given as goal
 
 abbrev pub invariant-loop : goal.invariant-loop
 invariant-loop l = l.self.problem ≡ l.fn.self.problem

@@ -2,7 +2,7 @@ use Rattle.std.proofs.Common.{ℕ, ◌≡◌, ◌<◌, ◌-◌, length, get_or, 
 use Rattle.s66_model.specs.LegalOrder.{IsBeginning}
 use Rattle.s66_model.proofs.LegalOrders.{ready-parts}
 use Rattle.s66_node.proofs.Standing.{ready-at}
-use Rattle.s66_deep.proofs.walk.Prefix.undo.Goals as goal
+use Rattle.s66_deep.proofs.walk.PathWalk.undo.Goals as goal
 
 pub put_back-requires : goal.put_back-requires
 put_back-requires c =

@@ -1,14 +1,14 @@
-//! The prefixes that may dominate others, to be found by the sets of their numbers.
-//! It is a transposition table: a prefix is compared with those of the same set that were met before.
+//! The transposition table: the prefixes that were met and may dominate others, to be found by the sets of their numbers.
+//! A prefix is compared with those of the same set.
 
 ghost use Rattle.std.specs.Prelude.{◌≤◌, length};
-ghost use Rattle.s66_deep.specs.declared.limits.TheConstants.{KEPT_LIMIT};
+ghost use Rattle.s66_deep.specs.declared.limits.TheConstants.{TRANSPOSITIONS_LIMIT};
 
 use crate::best_first::allowed::Allowed;
 use crate::best_first::nodes::Nodes;
 use crate::best_first::remaining::Remaining;
 use crate::best_first::waits::Waits;
-use crate::limits::{KEPT_LIMIT, LOOK_LIMIT};
+use crate::limits::{LOOK_LIMIT, TRANSPOSITIONS_LIMIT};
 use s66_isa::{KINDS, Profile, Set};
 use s66_time::{Clock, Mark, dominates_clamped};
 use std::alloc::{AllocError, Global};
@@ -34,28 +34,29 @@ pub(crate) struct Key {
     pub(crate) total: u32,
 }
 
-/// A prefix that is kept: its key, and the place of the next one in its list.
+/// A prefix in the table: its key, and the place of the next one in its list.
 #[derive(Clone, Copy)]
-struct KeptPrefix {
+struct StoredPrefix {
     key: Key,
     next: u32,
 }
 
-/// A prefix as it is looked for.
+/// A prefix with what is compared when the table is asked for one that dominates it.
 #[derive(Clone, Copy)]
-pub(crate) struct Sought {
+pub(crate) struct Probe {
     pub(crate) key: Key,
     /// What each completion of it takes at least, in minor cycles.
     pub(crate) floor: u32,
     pub(crate) waits: Waits,
 }
 
-/// A transposition table: prefixes, each in the list of the hash of its set, some 170 bytes each, and some 380 more with its mark. At most 262,144 are kept.
+/// Prefixes, each in the list of the hash of its set: some 170 bytes each, and some 380 more with its mark. At most 262,144 are
+/// stored.
 ///
 /// Nothing is promised of what is in which list: who looks for a set compares it with that of each entry.
 #[derive(Drop)]
-pub(crate) struct Kept {
-    entries: Vec<KeptPrefix>,
+pub(crate) struct Transpositions {
+    entries: Vec<StoredPrefix>,
     waits: Vec<Waits>,
     /// Whether a kind has more than two units, of which the words don't tell all: then marks are kept too.
     has_marks: bool,
@@ -71,7 +72,7 @@ fn list_of(pushed: &Set, lists: usize) -> usize {
 }
 
 /// Puts the entry of a place first in its list.
-fn put(entry: &mut KeptPrefix, firsts: &mut [u32], place: u32) {
+fn put(entry: &mut StoredPrefix, firsts: &mut [u32], place: u32) {
     let list = list_of(&entry.key.pushed, firsts.len());
     if list < firsts.len() {
         entry.next = firsts[list];
@@ -80,8 +81,8 @@ fn put(entry: &mut KeptPrefix, firsts: &mut [u32], place: u32) {
 }
 
 /// Puts each entry into its list; all lists are empty before.
-fn put_all(entries: &mut [KeptPrefix], firsts: &mut [u32])
-    requires { length entries.old ≤ KEPT_LIMIT }
+fn put_all(entries: &mut [StoredPrefix], firsts: &mut [u32])
+    requires { length entries.old ≤ TRANSPOSITIONS_LIMIT }
 {
     for place in 0..entries.len() {
         put(&mut entries[place], firsts, place as u32);
@@ -101,7 +102,7 @@ fn has_many_units(profile: &Profile) -> bool {
 impl Key {
     /// Whether this prefix may dominate another one, by all but the words. A total up to the other's floor makes no difference, since no
     /// completion of the other takes less.
-    fn may_dominate(&self, other: &Sought) -> bool {
+    fn may_dominate(&self, other: &Probe) -> bool {
         self.pushed == other.key.pushed
             && self.node != other.key.node
             && self.slot <= other.key.slot
@@ -110,13 +111,13 @@ impl Key {
     }
 }
 
-impl Kept {
+impl Transpositions {
     ghost use Rattle.std.specs.Prelude.{◌≤◌, length};
-    ghost use Rattle.s66_deep.specs.declared.limits.TheConstants.{KEPT_LIMIT};
+    ghost use Rattle.s66_deep.specs.declared.limits.TheConstants.{TRANSPOSITIONS_LIMIT};
 
     /// No prefix under a profile.
-    pub(crate) fn new(alloc: Global, profile: &Profile) -> Kept {
-        Kept {
+    pub(crate) fn new(alloc: Global, profile: &Profile) -> Transpositions {
+        Transpositions {
             entries: Vec::new(alloc),
             waits: Vec::new(alloc),
             has_marks: has_many_units(profile),
@@ -162,17 +163,17 @@ impl Kept {
         &self,
         nodes: &Nodes,
         remaining: &Remaining<'_, '_>,
-        sought: &Sought,
+        probe: &Probe,
     ) -> Option<u32> {
-        let mut allowed = Allowed::of(&sought.waits, remaining.clock);
-        let mut place = self.first(&sought.key.pushed);
+        let mut allowed = Allowed::of(&probe.waits, remaining.clock);
+        let mut place = self.first(&probe.key.pushed);
         for _ in 0..LOOK_LIMIT {
             let index = place as usize;
             if index >= self.entries.len() {
                 return None;
             }
             let entry = &self.entries[index];
-            if entry.key.may_dominate(sought)
+            if entry.key.may_dominate(probe)
                 && !nodes.is_dominated(entry.key.node)
                 && (self.are_allowed(index, &mut allowed, remaining)
                     || self.is_marked_ahead(index, remaining.clock))
@@ -186,7 +187,7 @@ impl Kept {
 
     /// Makes twice as many lists.
     fn double_lists(&mut self) -> Result<(), AllocError>
-        requires { length self.old.entries.items ≤ KEPT_LIMIT }
+        requires { length self.old.entries.items ≤ TRANSPOSITIONS_LIMIT }
     {
         let lists = self.firsts.len().saturating_mul(2).max(FIRST_LISTS);
         self.firsts.clear();
@@ -195,20 +196,20 @@ impl Kept {
         Ok(())
     }
 
-    /// Keeps a prefix, which has this clock, if there is room.
+    /// Stores a prefix, which has this clock, if there is room.
     ///
     /// # Errors
     ///
     /// `AllocError` if memory runs out.
-    pub(crate) fn keep(&mut self, one: &Sought, clock: &Clock<'_>) -> Result<(), AllocError> {
+    pub(crate) fn store(&mut self, one: &Probe, clock: &Clock<'_>) -> Result<(), AllocError> {
         let place = self.entries.len();
-        if place >= KEPT_LIMIT {
+        if place >= TRANSPOSITIONS_LIMIT {
             return Ok(());
         }
         if place >= self.firsts.len() {
             self.double_lists()?;
         }
-        let mut entry = KeptPrefix {
+        let mut entry = StoredPrefix {
             key: one.key,
             next: NONE,
         };

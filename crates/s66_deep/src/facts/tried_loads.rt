@@ -11,27 +11,27 @@ const UNKNOWN: [u32; NUMBER_COUNT] = [u32::MAX; NUMBER_COUNT];
 
 /// From each number, and at 0 from the origin, to each: a wait than which no load line says more.
 #[derive(Drop)]
-pub(crate) struct Tried {
+pub(crate) struct TriedLoads {
     waits: Vec<[u32; NUMBER_COUNT]>,
 }
 
-impl Tried {
+impl TriedLoads {
     /// Knows nothing. `Err` is out of memory.
-    pub(crate) fn new(alloc: Global) -> Result<Tried, AllocError> {
+    pub(crate) fn new(alloc: Global) -> Result<TriedLoads, AllocError> {
         let mut waits = Vec::new(alloc);
         for _ in 0..NUMBER_COUNT {
             waits.push(UNKNOWN)?;
         }
-        Ok(Tried { waits })
+        Ok(TriedLoads { waits })
     }
 
     /// The same. `Err` is out of memory.
-    pub(crate) fn duplicate(&self, alloc: Global) -> Result<Tried, AllocError> {
+    pub(crate) fn duplicate(&self, alloc: Global) -> Result<TriedLoads, AllocError> {
         let mut waits = Vec::new(alloc);
         for row in self.waits.as_slice() {
             waits.push(*row)?;
         }
-        Ok(Tried { waits })
+        Ok(TriedLoads { waits })
     }
 
     /// Whether no load line from one number to another says more than this wait.
