@@ -7,7 +7,6 @@ use Rattle.s66_line.specs.Block.{instrs_of, Block}
 use Rattle.s66_model.specs.Timing.{Problem, total_of}
 use Rattle.s66_model.specs.BestAndBound.{IsBound}
 use Rattle.s66_model.specs.LegalOrder.{IsLegal}
-use Rattle.s66_cert.specs.declared.limits.TheConstants.{SPLIT_LIMIT}
 use Rattle.s66_cert.specs.Document.{IsDocument}
 use Rattle.s66_checker.specs.Verdict as checker
 use Rattle.s66_checker.proofs.GrantedClaims.{claim-bound, verdict-claims}
@@ -30,17 +29,17 @@ answer-time strategy p block a (inr (deep, shown)) = shown.time
 
 -- ITS DOCUMENT
 
-module _ (strategy : Strategy) (p : Profile) (block : Block) (a : Answer) (spelled : IsSpelledBlock block) (within : strategy.search.nodes ≤ SPLIT_LIMIT) where
+module _ (strategy : Strategy) (p : Profile) (block : Block) (a : Answer) (spelled : IsSpelledBlock block) where
   pub answer-document : IsAnswer strategy p block a → IsDocument BLOCK_LIMIT (document_under strategy.search.rule p block a)
   answer-document (inl (found, is, same, all)) =
       subst (λ (x : Answer). IsDocument BLOCK_LIMIT (document_under strategy.search.rule p block x)) (sym same)
-      (search-document strategy.search.rule p block strategy.search.nodes found is (omega (arith, is.within, within)) spelled.0 spelled.1 spelled.2)
+      (search-document strategy.search.rule p block strategy.search.nodes found is (omega (arith, is.within, strategy.search.few)) spelled.0 spelled.1 spelled.2)
   answer-document (inr (deep, shown)) = shown.document
 
   pub answer-verdict : IsAnswer strategy p block a → checker.verdict (document_under strategy.search.rule p block a) ≡ Yes a.time a.bound
   answer-verdict (inl (found, is, same, all)) =
       subst (λ (x : Answer). checker.verdict (document_under strategy.search.rule p block x) ≡ Yes x.time x.bound) (sym same)
-      (verdict-of_search strategy.search.rule p block strategy.search.nodes found spelled (omega (arith, is.within, within)) is)
+      (verdict-of_search strategy.search.rule p block strategy.search.nodes found spelled (omega (arith, is.within, strategy.search.few)) is)
   answer-verdict (inr (deep, shown)) = shown.yes
 
   pub answer-bound : IsAnswer strategy p block a → IsBound (problem_of p block) a.bound

@@ -1,6 +1,5 @@
 pub mod StatusCode
 pub mod Shown
-pub mod SearchWithin
 pub mod Answers
 pub mod OfAnswers
 pub mod ProvedAnswers

@@ -2,7 +2,6 @@
 
 ghost use Rattle.std.specs.Prelude.{IfOk};
 ghost use Rattle.s66_answer.specs.Kept.{AreAnswered};
-ghost use Rattle.s66_answer.specs.SearchWithin.{IsSearchWithin};
 
 use crate::kept::{Keep, Searches, keep_each};
 use crate::observer::Observer;
@@ -38,7 +37,6 @@ pub fn keep_answers<
     strategy: Strategy,
     observer: &mut O,
 ) -> Result<Answered<X>, AllocError>
-    requires { IsSearchWithin strategy.search }
     ensures { IfOk result (λ all. AreAnswered
         (K.part what.now strategy profile.now) strategy profile.now only source.now all.parts.items all.status) }
 {
@@ -68,7 +66,6 @@ pub fn text_of_answers<R: AllocGlobal + Threads + Wait + Sync, K: Keep<u8> + Syn
     strategy: Strategy,
     observer: &mut O,
 ) -> Result<Output, AllocError>
-    requires { IsSearchWithin strategy.search }
     ensures { IfOk result (λ output. AreAnswered
         (K.part what.now strategy profile.now) strategy profile.now only source.now output.text.items output.status) }
 {

@@ -15,7 +15,6 @@ ghost use Rattle.s66_model.specs.Answer.{source_time};
 ghost use Rattle.s66_model.specs.Timing.{total_of};
 ghost use Rattle.s66_ledger.specs.Answers.{answer_of};
 ghost use Rattle.s66_answer.specs.Answers.{problem_of};
-ghost use Rattle.s66_answer.specs.SearchWithin.{IsSearchWithin};
 ghost use Rattle.s66_answer.specs.Stored.{AreBeside, IsFor, IsFound, IsSearchOf, IsShownBy, IsWorth, tree_splits};
 
 use crate::documents::{document_by, document_of, is_accepted};
@@ -25,7 +24,7 @@ use s66_deep::{Look, Looked, faster, look_at, show_best};
 use s66_isa::{BLOCK_LIMIT, Profile};
 use s66_ledger::Answer;
 use s66_line::Block;
-use s66_model::{Options, Rule};
+use s66_model::Rule;
 use s66_node::nearer;
 use s66_pool::{Free, LoneSearch, run};
 use s66_time::{Order, Timed};
@@ -319,14 +318,11 @@ fn plain_order(
     strategy: Strategy,
     goal: u32,
 ) -> Result<Sought, AllocError>
-    requires { IsSearchWithin strategy.search }
     ensures problem { IfOk result (λ plain. plain.best.problem ≡ problem_of profile.now block.now) }
     ensures splits { IfOk result (λ plain. plain.splits ≤ strategy.search.nodes) }
 {
-    let options = Options {
-        rule: Rule::NoneNamed,
-        ..strategy.search
-    };
+    let mut options = strategy.search;
+    options.rule = Rule::NoneNamed;
     let mut search = LoneSearch::new(alloc, block, profile, options)?;
     search.search(options.nodes / 2, goal)?;
     Ok(Sought {
@@ -345,7 +341,6 @@ fn seek_plain(
     best: Timed,
     bound: u32,
 ) -> Result<Sought, AllocError>
-    requires within { IsSearchWithin strategy.search }
     requires best { IsGood (problem_of profile.now block.now) best }
     ensures best { IfOk result (λ sought. IsGood (problem_of profile.now block.now) sought.best) }
     ensures splits { IfOk result (λ sought. sought.splits ≤ strategy.search.nodes) }
@@ -372,7 +367,6 @@ fn seek(
     best: Timed,
     bound: u32,
 ) -> Result<Sought, AllocError>
-    requires within { IsSearchWithin strategy.search }
     requires search { IsSearchOf strategy profile.now block.now search.old }
     requires best { IsGood (problem_of profile.now block.now) best }
     ensures search { IsSearchOf strategy profile.now block.now search.new }
@@ -400,7 +394,6 @@ fn answer_by(
     looked: Looked,
     made: u32,
 ) -> Result<Found, AllocError>
-    requires within { IsSearchWithin strategy.search }
     requires search { IsSearchOf strategy profile.now block.now search }
     requires deep { strategy.deep ≡ true }
     requires looked { IsLooked (problem_of profile.now block.now) strategy.search.nodes made looked }
@@ -459,7 +452,6 @@ fn answer_beside(
     looked: Looked,
     made: u32,
 ) -> Result<Found, AllocError>
-    requires within { IsSearchWithin strategy.search }
     requires answer { IsFound strategy profile.now block.now answer }
     requires deep { strategy.deep ≡ true }
     requires looked { IsLooked (problem_of profile.now block.now) strategy.search.nodes made looked }
@@ -484,7 +476,6 @@ fn answer_after(
     search: LoneSearch<'_>,
     is_printed: bool,
 ) -> Result<Found, AllocError>
-    requires within { IsSearchWithin strategy.search }
     requires search { IsSearchOf strategy profile.now block.now search }
     requires deep { strategy.deep ≡ true }
     ensures { IfOk result (IsFor strategy profile.now block.now) }
@@ -593,7 +584,6 @@ pub(crate) fn answer_alone(
     strategy: Strategy,
     is_printed: bool,
 ) -> Result<Found, AllocError>
-    requires search { IsSearchWithin strategy.search }
     requires deep { strategy.deep ≡ true }
     ensures { IfOk result (IsFor strategy profile.now block.now) }
 {
@@ -623,7 +613,6 @@ pub(crate) fn answer_to<R: AllocGlobal + Threads + Wait + Sync>(
     profile: &Profile,
     strategy: Strategy,
 ) -> Result<Found, AllocError>
-    requires { IsSearchWithin strategy.search }
     ensures { IfOk result (IsFor strategy profile.now block.now) }
 {
     let answer = run(rt, block, profile, strategy.search, &Free)?;

@@ -8,7 +8,6 @@ ghost use Rattle.s66_command.specs.declared.strategy.Strategy.{Strategy as Strat
 ghost use Rattle.s66_answer.specs.Answers.{Answer as AnswerOf};
 ghost use Rattle.s66_answer.specs.Kept.{AreKept, IsKept, IsKeptAt, bounded_in, parts_in};
 ghost use Rattle.s66_answer.specs.OfAnswers.{bounded_if};
-ghost use Rattle.s66_answer.specs.SearchWithin.{IsSearchWithin};
 ghost use Rattle.s66_answer.specs.Stored.{IsFor, answer_in};
 
 use crate::answers::{Found, answer_alone, answer_to};
@@ -107,7 +106,6 @@ fn kept_at<X: Drop, K: Keep<X>>(
     searches: &Searches<'_, '_, K>,
     place: usize,
 ) -> Result<KeptBlock<X>, AllocError>
-    requires search { IsSearchWithin searches.now.strategy.search }
     requires deep { searches.now.strategy.deep ≡ true }
     requires before { searches.now.before < 2 ^ 32 }
     requires within { place < length searches.now.blocks.now }
@@ -129,8 +127,7 @@ fn kept_at<X: Drop, K: Keep<X>>(
 }
 
 impl<'s, 'b, X: Drop, K: Keep<X>> Task<KeptBlock<X>> for Searches<'s, 'b, K> {
-    ghost accepts = { λ t i. (i < length t.blocks.now) × (t.before < 2 ^ 32) ×
-        IsSearchWithin t.strategy.search × (t.strategy.deep ≡ true) };
+    ghost accepts = { λ t i. (i < length t.blocks.now) × (t.before < 2 ^ 32) × (t.strategy.deep ≡ true) };
 
     ghost gives = { λ t i kept. IsKeptAt (K.part t.what.now t.strategy t.profile.now) t.strategy t.profile.now t.before
         t.blocks.now i kept };
@@ -174,7 +171,6 @@ fn keep_side_by_side<
     K: Keep<X> + Sync,
     O: Observer,
 >(rt: &R, searches: &Searches<'_, '_, K>, observer: &mut O) -> Result<Kept<X>, AllocError>
-    requires search { IsSearchWithin searches.now.strategy.search }
     requires deep { searches.now.strategy.deep ≡ true }
     requires before { searches.now.before < 2 ^ 32 }
     ensures { let s = searches.now in IfOk result
@@ -195,7 +191,6 @@ fn keep_in_turn<R: AllocGlobal + Threads + Wait + Sync, X: Drop, K: Keep<X>, O: 
     searches: &Searches<'_, '_, K>,
     observer: &mut O,
 ) -> Result<Kept<X>, AllocError>
-    requires search { IsSearchWithin searches.now.strategy.search }
     requires before { searches.now.before < 2 ^ 32 }
     ensures { let s = searches.now in IfOk result
         (λ all. AreKept (K.part s.what.now s.strategy s.profile.now) s.strategy s.profile.now s.before s.blocks.now
@@ -221,7 +216,6 @@ pub(crate) fn keep_each<
     K: Keep<X> + Sync,
     O: Observer,
 >(rt: &R, searches: &Searches<'_, '_, K>, observer: &mut O) -> Result<Kept<X>, AllocError>
-    requires search { IsSearchWithin searches.now.strategy.search }
     requires before { searches.now.before < 2 ^ 32 }
     ensures { let s = searches.now in IfOk result
         (λ all. AreKept (K.part s.what.now s.strategy s.profile.now) s.strategy s.profile.now s.before s.blocks.now
