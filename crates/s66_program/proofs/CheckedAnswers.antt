@@ -1,5 +1,5 @@
 -- The documents of answers to the blocks of a source are a text, in one way, and the verdict on each is yes.
-use Rattle.std.proofs.Common.{ℕ, zero, suc, ◌+◌, ◌-◌, ◌≡◌, ◌≤◌, ◌&&◌, ◌∙◌, Bool, true, false, if◌then◌else◌, Option, None, Some, List, [], ◌∷◌, ◌++◌, drop, take, refl, sym, ap, ap₂, arith, inl, inr}
+use Rattle.std.proofs.Common.{ℕ, zero, suc, ◌+◌, ◌-◌, ◌≡◌, ◌&&◌, ◌∙◌, Bool, true, false, if◌then◌else◌, Option, None, Some, List, [], ◌∷◌, ◌++◌, drop, take, refl, sym, ap, ap₂, arith, inl, inr}
 use Rattle.s66_isa.specs.declared.profile.Profile.{Profile}
 use Rattle.s66_isa.specs.Lists.{Among, every}
 use Rattle.s66_isa.specs.declared.limits.TheConstants.{BLOCK_LIMIT}
@@ -47,13 +47,13 @@ text-is-yes : (texts : Bool) (n : ℕ) (a : Answer) (d : Document) → verdict d
 text-is-yes false n a d is = ap (verdict_line n) is
 text-is-yes true n a d is = ap (λ v. verdict_line n v ++ reasons_by v d) is
 
-module _ (strategy : Strategy) (p : Profile) (within : strategy.search.nodes ≤ SPLIT_LIMIT) where
+module _ (strategy : Strategy) (p : Profile) where
   documents-are : (blocks : List Block) (answers : List Answer) → AreSpelled blocks → AreAnswers strategy p blocks answers → AreDocumentsWithin BLOCK_LIMIT SPLIT_LIMIT (all_documents strategy.search.rule p blocks answers)
   documents-are [] [] spelled are = tt
   documents-are [] (a ∷ answers) spelled are = absurd are
   documents-are (block ∷ blocks) [] spelled are = absurd are
   documents-are (block ∷ blocks) (a ∷ answers) spelled are =
-      (answer-document strategy p block a (spelled block (inl refl)) within are.0, documents-are blocks answers (λ b among. spelled b (inr among)) are.1)
+      (answer-document strategy p block a (spelled block (inl refl)) are.0, documents-are blocks answers (λ b among. spelled b (inr among)) are.1)
 
   lines-are : (texts : Bool) (n : ℕ) (blocks : List Block) (answers : List Answer) → AreSpelled blocks → AreAnswers strategy p blocks answers → verdict_lines texts n (all_documents strategy.search.rule p blocks answers) ≡ yes_lines texts n answers (all_documents strategy.search.rule p blocks answers)
   lines-are texts n [] [] spelled are = refl
@@ -61,7 +61,7 @@ module _ (strategy : Strategy) (p : Profile) (within : strategy.search.nodes ≤
   lines-are texts n (block ∷ blocks) [] spelled are = absurd are
   lines-are texts n (block ∷ blocks) (a ∷ answers) spelled are =
       ap₂ (λ (line rest : List ℕ). line ++ rest)
-      (text-is-yes texts (n + 1) a (document_under strategy.search.rule p block a) (answer-verdict strategy p block a (spelled block (inl refl)) within are.0))
+      (text-is-yes texts (n + 1) a (document_under strategy.search.rule p block a) (answer-verdict strategy p block a (spelled block (inl refl)) are.0))
       (lines-are texts (n + 1) blocks answers (λ b among. spelled b (inr among)) are.1)
 
   all-yes : (blocks : List Block) (answers : List Answer) → AreSpelled blocks → AreAnswers strategy p blocks answers → every (λ d. is_yes (verdict d)) (all_documents strategy.search.rule p blocks answers) ≡ true
@@ -69,7 +69,7 @@ module _ (strategy : Strategy) (p : Profile) (within : strategy.search.nodes ≤
   all-yes [] (a ∷ answers) spelled are = absurd are
   all-yes (block ∷ blocks) [] spelled are = absurd are
   all-yes (block ∷ blocks) (a ∷ answers) spelled are =
-      ap₂ (λ v rest. is_yes v && rest) (answer-verdict strategy p block a (spelled block (inl refl)) within are.0) (all-yes blocks answers (λ b among. spelled b (inr among)) are.1)
+      ap₂ (λ v rest. is_yes v && rest) (answer-verdict strategy p block a (spelled block (inl refl)) are.0) (all-yes blocks answers (λ b among. spelled b (inr among)) are.1)
 
   module _ (texts : Bool) (only : Option ℕ) (source : Reading) (text : List ℕ) (status : Status) where
     pub checked-yes : IsProveOutput strategy p only source text status → (lines : List ℕ) × AreYesLines texts strategy p only source text lines × IsCheckOutput texts text lines Done

@@ -1,18 +1,18 @@
 -- What the line of a report says by its bytes: if it ends in BEST, it is of an answer that is best, and no other bound is read in it than the answer's.
-use Rattle.std.proofs.Common.{ℕ, zero, suc, ◌+◌, ◌-◌, ◌^◌, ◌≡◌, ◌≤◌, ◌<◌, ◌==◌, ◌&&◌, ◌||◌, not, ◌∙◌, Bool, true, false, if◌then◌else◌, List, [], ◌∷◌, ◌++◌, drop, take, replicate, length, Option, Some, None, codes, refl, sym, ap, subst, arith, inl, inr, append_assoc, eqb, leb, leb-true}
+use Rattle.std.proofs.Common.{ℕ, zero, suc, ◌+◌, ◌-◌, ◌^◌, ◌≡◌, ◌<◌, ◌==◌, ◌&&◌, ◌||◌, not, ◌∙◌, Bool, true, false, if◌then◌else◌, List, [], ◌∷◌, ◌++◌, drop, take, replicate, length, Option, Some, None, codes, refl, sym, ap, subst, arith, inl, inr, append_assoc, eqb, leb, leb-true}
 use Rattle.std.specs.Prelude.{◌⊎◌, decimal}
 use Rattle.std.proofs.lemmas.Bool.{and_parts, eq-eqb, eqb-true, ne_eqb, not-true}
 use Rattle.std.proofs.lemmas.List.{append-nil}
 use Rattle.s66_isa.specs.Lists.{Among, every}
 use Rattle.s66_isa.specs.declared.profile.Profile.{Profile}
 use Rattle.s66_line.specs.Block.{Block}
+use Rattle.s66_line.specs.Characters.{is_decimal}
 use Rattle.s66_line.proofs.Wholes.{every-append, is_inside}
 use Rattle.s66_model.specs.Answer.{source_time}
 use Rattle.s66_model.specs.BestAndBound.{IsBound}
 use Rattle.s66_model.specs.Timing.{Problem, total_of}
 use Rattle.s66_model.proofs.Growth.{total-le}
-use Rattle.s66_cert.specs.Lines.{is_digit, value_after}
-use Rattle.s66_cert.specs.declared.limits.TheConstants.{SPLIT_LIMIT}
+use Rattle.s66_cert.specs.Lines.{value_after}
 use Rattle.s66_cert.proofs.NumberTexts.{decimal-clear, decimal-digits, decimal-value, is_other}
 use Rattle.s66_command.specs.declared.strategy.Strategy.{Strategy}
 use Rattle.s66_answer.specs.declared.outcome.Status.{Status}
@@ -42,10 +42,10 @@ last_of-append : (d : ℕ) (xs ys : List ℕ) → last_of d (xs ++ ys) ≡ last_
 last_of-append d [] ys = refl
 last_of-append d (x ∷ xs) ys = last_of-append x xs ys
 
-last-digit : (d : ℕ) (ds : List ℕ) → d < 58 → every is_digit ds ≡ true → last_of d ds < 58
+last-digit : (d : ℕ) (ds : List ℕ) → d < 58 → every is_decimal ds ≡ true → last_of d ds < 58
 last-digit d [] below h = below
 last-digit d (e ∷ ds) below h =
-    let both = and_parts (is_digit e) (every is_digit ds) h in
+    let both = and_parts (is_decimal e) (every is_decimal ds) h in
     let range = and_parts (leb 48 e) (leb e 57) both.0 in
     last-digit e ds (omega (arith, leb-true e 57 range.1)) both.1
 
@@ -122,13 +122,13 @@ least-read false front bound n fits within (before, ends) = same-number front be
 
 -- A BLOCK
 
-block-reported : (strategy : Strategy) (p : Profile) (style : OrderStyle) (all : List Line) (n : ℕ) (block : Block) (a : Answer) → IsSpelledBlock block → strategy.search.nodes ≤ SPLIT_LIMIT → IsAnswer strategy p block a →
+block-reported : (strategy : Strategy) (p : Profile) (style : OrderStyle) (all : List Line) (n : ℕ) (block : Block) (a : Answer) → IsSpelledBlock block → IsAnswer strategy p block a →
     IsReported p style all n block (anew_text style.quiet (columns_by style.columns) all n block (placed_by p style.trace block a))
-block-reported strategy p style all n block a spelled within is =
+block-reported strategy p style all n block a spelled is =
     let b : Problem = problem_of p block in
     let legal = answer-legal strategy p block a is in
     let time : a.time ≡ total_of b a.order = answer-time strategy p block a is in
-    let bound : IsBound b a.bound = answer-bound strategy p block a spelled within is in
+    let bound : IsBound b a.bound = answer-bound strategy p block a spelled is in
     let small : a.time < 2 ^ 64 = omega (arith, time, total-le b a.order, legal.whole, spelled.1) in
     let fits : a.bound < 2 ^ 64 = omega (arith, bound a.order legal, time, small) in
     let front : List ℕ = times_text n (length block.entries) (source_time b) a.time in
@@ -154,7 +154,7 @@ or-true : (t : Bool) → (t || true) ≡ true
 or-true true = refl
 or-true false = refl
 
-module _ (strategy : Strategy) (p : Profile) (style : OrderStyle) (all : List Line) (within : strategy.search.nodes ≤ SPLIT_LIMIT) where
+module _ (strategy : Strategy) (p : Profile) (style : OrderStyle) (all : List Line) where
   abbrev texts : ℕ → List Block → List (Option Placed) → List (Option (List ℕ))
   texts n blocks gs = texts_of style.quiet (columns_by style.columns) all n blocks gs
 
@@ -174,7 +174,7 @@ module _ (strategy : Strategy) (p : Profile) (style : OrderStyle) (all : List Li
     where
       by_test : (t : Bool) → (style.keep && rise_from 1 a.order) ≡ t → AreChosen p style only all n (block ∷ blocks) (texts n (block ∷ blocks) ((if t then None else Some (placed_by p style.trace block a)) ∷ gs))
       by_test true kept = (ap (λ t. t || not (is_asked only n)) (and_parts style.keep (rise_from 1 a.order) kept).0, rest)
-      by_test false kept = ((asked, block-reported strategy p style all n block a spelled within is), rest)
+      by_test false kept = ((asked, block-reported strategy p style all n block a spelled is), rest)
 
   chosen-all : (n : ℕ) (blocks : List Block) (answers : List Answer) → ((block : Block) → Among block blocks → IsSpelledBlock block) → AreAnswers strategy p blocks answers → AreChosen p style None all n blocks (texts n blocks (all_given p style blocks answers))
   chosen-all n [] answers spelled are = tt
@@ -197,8 +197,8 @@ module _ (strategy : Strategy) (p : Profile) (style : OrderStyle) (all : List Li
   chosen None blocks answers spelled are = chosen-all 1 blocks answers spelled are
   chosen (Some m) blocks answers spelled are = chosen-one m (m - 1) 1 blocks answers spelled (omega arith) are
 
-pub blocks-reported : (strategy : Strategy) (p : Profile) (style : OrderStyle) (only : Option ℕ) (source : Reading) (text : List ℕ) (status : Status) → strategy.search.nodes ≤ SPLIT_LIMIT → IsOrdered strategy p style only source text status → ReportsBlocks p style only source text
-blocks-reported strategy p style only source text status within (blocks, accepted, (answers, are, is, ends)) =
+pub blocks-reported : (strategy : Strategy) (p : Profile) (style : OrderStyle) (only : Option ℕ) (source : Reading) (text : List ℕ) (status : Status) → IsOrdered strategy p style only source text status → ReportsBlocks p style only source text
+blocks-reported strategy p style only source text status (blocks, accepted, (answers, are, is, ends)) =
     let all : List Line = classed_lines source in
     let gs : List (Option Placed) = replicate (before only) None ++ all_given p style (shown only blocks) answers in (
       blocks,
@@ -207,6 +207,6 @@ blocks-reported strategy p style only source text status within (blocks, accepte
         texts_of style.quiet (columns_by style.columns) all 1 (blocks_of all) gs,
         is,
         subst (λ bs. AreChosen p style only all 1 blocks (texts_of style.quiet (columns_by style.columns) all 1 bs gs)) (sym (accepted-is source blocks accepted))
-            (chosen strategy p style all within only blocks answers (spelled-block source blocks accepted) are),
+            (chosen strategy p style all only blocks answers (spelled-block source blocks accepted) are),
       ),
     )

@@ -1,17 +1,15 @@
 -- To be believed: what each command writes for what it reads, and how it ends.
-use Rattle.std.specs.Prelude.{ℕ, ◌≡◌, ◌≤◌, Bool, true, false, List, Option, None, Some, IfSome}
+use Rattle.std.specs.Prelude.{ℕ, ◌≡◌, Bool, true, false, List, Option, None, Some}
 use Rattle.s66_isa.specs.declared.profile.Profile.{Profile}
 use Rattle.s66_isa.specs.Table.{standard}
 use Rattle.s66_source.specs.LeftAlone.{Reading}
-use Rattle.s66_command.specs.declared.limits.TheConstants.{BLOCK_NUMBER_LIMIT}
 use Rattle.s66_command.specs.ProfileText.{profile_in_text}
 use Rattle.s66_command.specs.declared.command.Command.{Command}
 use Rattle.s66_command.specs.declared.command.Asked.{Asked}
 use Rattle.s66_command.specs.declared.command.Asked.TheVariants.{Time, Deps, Chart, Why, Page, Pairs, Json, Order, Prove, Check, Lint, Sum, Compare, Guard}
-use Rattle.s66_command.specs.CommandParts.{reads_cut, profile_text, reads_of, strategy_of}
+use Rattle.s66_command.specs.CommandParts.{reads_cut, profile_text, reads_of}
 use Rattle.s66_command.specs.declared.command.Reads.{Reads}
 use Rattle.s66_command.specs.declared.command.Reads.TheVariants.{Source}
-use Rattle.s66_answer.specs.SearchWithin.{IsSearchWithin}
 use Rattle.s66_answer.specs.declared.outcome.Status.{Status}
 use Rattle.s66_program.specs.TimeText.{IsTimeOutput}
 use Rattle.s66_program.specs.DepsText.{IsDepsOutput}
@@ -26,14 +24,6 @@ use Rattle.s66_program.specs.LintText.{IsLintOutput}
 use Rattle.s66_program.specs.GuardText.{IsGuardOutput}
 use Rattle.s66_program.specs.SumText.{IsSumOutput}
 use Rattle.s66_program.specs.CompareText.{IsCompareOutput, IsPairsOutput}
-
--- the number of the only block that is printed, if there is one
-abbrev pub IsBlockWithin : (only : Option ℕ) → Type 0
-IsBlockWithin only = IfSome only (λ n. (1 ≤ n) × (n ≤ BLOCK_NUMBER_LIMIT))
-
--- the numbers of a command are within their limits
-abbrev pub IsWithinLimits : Command → Type 0
-IsWithinLimits command = IfSome (strategy_of command.asked) (λ strategy. IsSearchWithin strategy.search) × IsBlockWithin command.block
 
 -- PROFILES
 

@@ -11,11 +11,11 @@ use std::marker::Model;
 
 /// The name by which a block is entered; empty if there is none.
 #[derive(Drop)]
-pub(crate) struct Entry<'a> {
+pub(crate) struct EntryPoint<'a> {
     pub(crate) name: &'a [u8],
 }
 
-impl<'a> Model for Entry<'a> {
+impl<'a> Model for EntryPoint<'a> {
     ghost use Rattle.std.specs.Prelude.{ℕ, List};
 
     ghost Value = { List ℕ };
@@ -45,7 +45,10 @@ fn or_last<'a>(name: &'a [u8], last: &'a [u8]) -> &'a [u8]
 }
 
 /// By what name each block among these parts is entered.
-fn entries_among<'a>(alloc: Global, parts: &[FramePart<'a>]) -> Result<Vec<Entry<'a>>, AllocError>
+fn entries_among<'a>(
+    alloc: Global,
+    parts: &[FramePart<'a>],
+) -> Result<Vec<EntryPoint<'a>>, AllocError>
     ensures { IfOk result (λ entries. entries.items ≡ entries_from [] parts.now) }
 {
     let mut entries = Vec::new(alloc);
@@ -53,7 +56,7 @@ fn entries_among<'a>(alloc: Global, parts: &[FramePart<'a>]) -> Result<Vec<Entry
     for part in parts {
         if part.is_block {
             let name = or_last(name_in(part.bytes), last);
-            entries.push(Entry { name })?;
+            entries.push(EntryPoint { name })?;
             last = &[];
         } else {
             last = last_name(last, part.bytes);
@@ -66,7 +69,7 @@ fn entries_among<'a>(alloc: Global, parts: &[FramePart<'a>]) -> Result<Vec<Entry
 pub(crate) fn entries_of<'a>(
     alloc: Global,
     source: &Source<'a>,
-) -> Result<Vec<Entry<'a>>, AllocError>
+) -> Result<Vec<EntryPoint<'a>>, AllocError>
     ensures { IfOk result (λ entries. entries.items ≡ entries_of source.now) }
 {
     let parts = frame_of(alloc, source)?;
@@ -75,7 +78,7 @@ pub(crate) fn entries_of<'a>(
 }
 
 /// The name of the n-th block, from 1.
-pub(crate) fn entry_at<'a>(entries: &[Entry<'a>], number: usize) -> &'a [u8]
+pub(crate) fn entry_at<'a>(entries: &[EntryPoint<'a>], number: usize) -> &'a [u8]
     ensures { result.now ≡ entry_at entries.now number }
 {
     match entries.get(number.saturating_sub(1)) {

@@ -1,13 +1,12 @@
 //! What `json` writes: a line for each block, as written or also in the order found.
 
-ghost use Rattle.std.specs.Prelude.{◌≡◌, ◌++◌, IfOk, IfSome, OnOk};
+ghost use Rattle.std.specs.Prelude.{◌≡◌, ◌++◌, IfOk, OnOk};
 ghost use Rattle.s66_line.specs.Block.{instrs_of};
 ghost use Rattle.s66_views.specs.Json.{found_data, json_line};
-ghost use Rattle.s66_answer.specs.SearchWithin.{IsSearchWithin};
 ghost use Rattle.s66_program.specs.AsWritten.{as_written};
 ghost use Rattle.s66_program.specs.JsonText.{IsJsonOutput, answer_line, written_line};
 
-use crate::entries::{Entry, entries_of, entry_at};
+use crate::entries::{EntryPoint, entries_of, entry_at};
 use crate::listing::{Listing, listing_output};
 use s66_answer::{BlockAnswer, Keep, Observer, Output, text_of_answers};
 use s66_command::Strategy;
@@ -24,7 +23,7 @@ use std::thread::Threads;
 fn push_json_line(
     out: &mut Vec<u8>,
     timer: &mut Timer,
-    entries: &[Entry],
+    entries: &[EntryPoint],
     number: usize,
     block: &Block,
 ) -> Result<(), AllocError>
@@ -63,7 +62,7 @@ fn push_json_found(
 #[derive(Drop)]
 struct JsonLines<'e, 'a> {
     /// The names by which all blocks of the source are entered.
-    entries: &'e [Entry<'a>],
+    entries: &'e [EntryPoint<'a>],
 }
 
 impl<'e, 'a> Listing for JsonLines<'e, 'a> {
@@ -111,7 +110,6 @@ pub(crate) fn json_output<R: AllocGlobal + Threads + Wait + Sync, O: Observer>(
     profile: &Profile,
     observer: &mut O,
 ) -> Result<Output, AllocError>
-    requires { IfSome order (λ strategy. IsSearchWithin strategy.search) }
     ensures { IfOk result (λ output. IsJsonOutput profile.now order only source.now output.text.items output.status) }
 {
     let alloc = rt.alloc();

@@ -18,7 +18,6 @@ ghost use Rattle.s66_model.specs.declared.rule.Rule.TheVariants.{NoneNamed};
 ghost use Rattle.s66_model.specs.BestAndBound.{IsBound};
 ghost use Rattle.s66_model.specs.LegalOrder.{IsLegal};
 ghost use Rattle.s66_model.specs.Timing.{Problem, total_of};
-ghost use Rattle.s66_model.specs.declared.limits.TheConstants.{BUDGET_LIMIT};
 ghost use Rattle.s66_cert.specs.Document.{Document, IsDocument, IsText};
 ghost use Rattle.s66_cert.specs.declared.limits.TheConstants.{TIME_LIMIT};
 ghost use Rattle.s66_cert.specs.Examples.{one_load, with_times};
@@ -67,7 +66,7 @@ pub fn answered_law()
     ensures time { (strategy : Strategy) (p : Profile) (block : Block) (a : Answer) → IsAnswer strategy p block a →
         a.time ≡ total_of (problem_of p block) a.order }
     ensures bound { (strategy : Strategy) (p : Profile) (source : Reading) (blocks : List Block) (block : Block)
-        (a : Answer) → source_of source ≡ Ok blocks → Among block blocks → strategy.search.nodes ≤ BUDGET_LIMIT →
+        (a : Answer) → source_of source ≡ Ok blocks → Among block blocks →
         IsAnswer strategy p block a → IsBound (problem_of p block) a.bound }
     ensures spent { (strategy : Strategy) (p : Profile) (block : Block) (a : Answer) → IsAnswer strategy p block a →
         a.bound < a.time → strategy.search.nodes ≤ a.splits }
@@ -84,10 +83,10 @@ pub fn proved_law()
         (a : Answer) → source_of source ≡ Ok blocks → Among block blocks →
         checker.problem_of (document_under strategy.search.rule p block a) ≡ problem_of p block }
     ensures document { (strategy : Strategy) (p : Profile) (source : Reading) (blocks : List Block) (block : Block)
-        (a : Answer) → source_of source ≡ Ok blocks → Among block blocks → strategy.search.nodes ≤ BUDGET_LIMIT →
+        (a : Answer) → source_of source ≡ Ok blocks → Among block blocks →
         IsAnswer strategy p block a → IsDocument BLOCK_LIMIT (document_under strategy.search.rule p block a) }
     ensures yes { (strategy : Strategy) (p : Profile) (source : Reading) (blocks : List Block) (block : Block)
-        (a : Answer) → source_of source ≡ Ok blocks → Among block blocks → strategy.search.nodes ≤ BUDGET_LIMIT →
+        (a : Answer) → source_of source ≡ Ok blocks → Among block blocks →
         IsAnswer strategy p block a → verdict (document_under strategy.search.rule p block a) ≡ Yes a.time a.bound }
 {}
 
@@ -95,11 +94,11 @@ pub fn proved_law()
 /// answer's time and bound, and with `--text` the sentences below it; it writes nothing else, and is done.
 pub fn checked_law()
     ensures yes { (texts : Bool) (strategy : Strategy) (p : Profile) (only : Option ℕ) (source : Reading)
-        (text : List ℕ) (status : Status) → strategy.search.nodes ≤ BUDGET_LIMIT →
+        (text : List ℕ) (status : Status) →
         IsProveOutput strategy p only source text status →
         (lines : List ℕ) × AreYesLines texts strategy p only source text lines × IsCheckOutput texts text lines Done }
     ensures alone { (texts : Bool) (strategy : Strategy) (p : Profile) (only : Option ℕ) (source : Reading)
-        (text lines : List ℕ) (status checked : Status) → strategy.search.nodes ≤ BUDGET_LIMIT →
+        (text lines : List ℕ) (status checked : Status) →
         IsProveOutput strategy p only source text status → IsCheckOutput texts text lines checked →
         AreYesLines texts strategy p only source text lines × (checked ≡ Done) }
 {}

@@ -1,12 +1,11 @@
 //! What one reads in the bytes of what `order` wrote: contracts of functions that do nothing.
 
-ghost use Rattle.std.specs.Prelude.{ℕ, Bool, true, List, Ok, Option, Some, ◌≡◌, ◌≤◌};
+ghost use Rattle.std.specs.Prelude.{ℕ, Bool, true, List, Ok, Option, Some, ◌≡◌};
 ghost use Rattle.s66_command.specs.declared.command.OrderStyle.{OrderStyle};
 ghost use Rattle.s66_command.specs.declared.strategy.Strategy.{Strategy};
 ghost use Rattle.s66_compare.specs.Compared.{IsCompared};
 ghost use Rattle.s66_isa.specs.declared.profile.Profile.{Profile};
 ghost use Rattle.s66_line.specs.Block.{Block};
-ghost use Rattle.s66_model.specs.declared.limits.TheConstants.{BUDGET_LIMIT};
 ghost use Rattle.s66_answer.specs.declared.outcome.Status.{Status};
 ghost use Rattle.s66_answer.specs.declared.outcome.Status.TheVariants.{Done};
 ghost use Rattle.s66_program.specs.CompareText.{IsCompareOutput};
@@ -21,7 +20,7 @@ ghost use Rattle.s66_program.specs.Reports.{ReportsBlocks};
 /// order of the block takes less; if in AT LEAST and a number, none takes less than that.
 pub fn reported_law()
     ensures { (strategy : Strategy) (p : Profile) (style : OrderStyle) (only : Option ℕ) (source : Reading) (text : List ℕ)
-        (status : Status) → strategy.search.nodes ≤ BUDGET_LIMIT → IsOrdered strategy p style only source text status →
+        (status : Status) → IsOrdered strategy p style only source text status →
         ReportsBlocks p style only source text }
 {}
 

@@ -3,7 +3,7 @@
 ghost use Rattle.std.specs.Prelude.{◌≡◌, false, true, IfOk, IfErr};
 ghost use Rattle.s66_command.specs.CommandParts.{reads_cut, reads_of};
 ghost use Rattle.s66_command.specs.declared.command.Reads.TheVariants as reads;
-ghost use Rattle.s66_program.specs.Output.{IsAskedOutput, IsOutput, IsWithinLimits, shows_blocks};
+ghost use Rattle.s66_program.specs.Output.{IsAskedOutput, IsOutput, shows_blocks};
 ghost use Rattle.s66_program.specs.CompareText.{IsViewOutput};
 ghost use Rattle.s66_program.specs.Remarks.{IsRemark, prints_orders};
 ghost use Rattle.s66_program.specs.Run.{IsRefusal};
@@ -41,7 +41,6 @@ fn output_of<R: AllocGlobal + Threads + Wait + Sync, O: Observer>(
     source: &Source,
     observer: &mut O,
 ) -> Result<Output, AllocError>
-    requires within { IsWithinLimits command }
     requires shows { shows_blocks command.asked ≡ true }
     ensures { IfOk result (λ output.
         IsAskedOutput profile.now command.entry.asked command.entry.block source.now output.text.items output.status) }
@@ -76,7 +75,6 @@ fn source_output<R: AllocGlobal + Threads + Wait + Sync, O: Observer>(
     input: &[u8],
     observer: &mut O,
 ) -> Result<Finished, Fault>
-    requires within { IsWithinLimits command }
     requires reads { reads_of command.asked ≡ reads.Source }
     requires shows { shows_blocks command.asked ≡ true }
     ensures ok { IfOk result (λ finished.
@@ -123,7 +121,6 @@ pub(crate) fn output_for<R: AllocGlobal + Threads + Wait + Sync, O: Observer>(
     input: &[u8],
     observer: &mut O,
 ) -> Result<Finished, Fault>
-    requires { IsWithinLimits command }
     ensures ok { IfOk result (λ finished.
         IsOutput profile.now command.entry input.now finished.output.text.items finished.output.status) }
     ensures remark { IfOk result (λ finished.

@@ -1,11 +1,10 @@
 //! What `page` writes: a page of all blocks, with answers and reasons.
 
 ghost use Rattle.std.specs.Prelude.{IfOk};
-ghost use Rattle.s66_answer.specs.SearchWithin.{IsSearchWithin};
 ghost use Rattle.s66_program.specs.PageText.{IsPageOutput, found_part};
 
 use crate::best_reasons::push_best_reasons;
-use crate::entries::{Entry, entries_of, entry_at};
+use crate::entries::{EntryPoint, entries_of, entry_at};
 use s66_answer::{BlockAnswer, Keep, Observer, Output, blocks_before, keep_answers, shown};
 use s66_command::Strategy;
 use s66_isa::Profile;
@@ -19,7 +18,7 @@ use std::thread::Threads;
 #[derive(Drop)]
 struct Views<'e, 'a> {
     /// The names by which all blocks of the source are entered.
-    entries: &'e [Entry<'a>],
+    entries: &'e [EntryPoint<'a>],
 }
 
 impl<'e, 'a> Keep<FoundOrder> for Views<'e, 'a> {
@@ -55,7 +54,6 @@ pub(crate) fn page_output<R: AllocGlobal + Threads + Wait + Sync, O: Observer>(
     strategy: Strategy,
     observer: &mut O,
 ) -> Result<Output, AllocError>
-    requires { IsSearchWithin strategy.search }
     ensures { IfOk result (λ output.
         IsPageOutput strategy profile.now only source.now output.text.items output.status) }
 {

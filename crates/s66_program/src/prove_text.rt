@@ -1,7 +1,6 @@
 //! What `prove` writes: the document of the answer to each block.
 
 ghost use Rattle.std.specs.Prelude.{IfOk};
-ghost use Rattle.s66_answer.specs.SearchWithin.{IsSearchWithin};
 ghost use Rattle.s66_program.specs.ProveText.{IsProveOutput, document_part};
 
 use s66_answer::{BlockAnswer, Keep, Observer, Output, text_of_answers};
@@ -48,7 +47,6 @@ pub(crate) fn prove_output<R: AllocGlobal + Threads + Wait + Sync, O: Observer>(
     strategy: Strategy,
     observer: &mut O,
 ) -> Result<Output, AllocError>
-    requires { IsSearchWithin strategy.search }
     ensures { IfOk result (λ output.
         IsProveOutput strategy profile.now only source.now output.text.items output.status) }
 {

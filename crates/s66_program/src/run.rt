@@ -1,7 +1,7 @@
 //! Runs a command (`run_command`): reads its profile and its input, makes all text, and only then writes.
 
 ghost use Rattle.std.specs.Prelude.{true, ◌≡◌, ◌-◌, ◌^◌, ◌<◌, IfOk, IfErr, IfSome};
-ghost use Rattle.s66_program.specs.Output.{IsUnder, IsWithinLimits, reads_source};
+ghost use Rattle.s66_program.specs.Output.{IsUnder, reads_source};
 ghost use Rattle.s66_program.specs.declared.limits.TheConstants.{SOURCE_FRONT};
 ghost use Rattle.s66_program.specs.Run.{IsOutcome, IsOutcomeUnder, IsProfileFault};
 
@@ -49,7 +49,6 @@ fn run_under<R: AllocGlobal + Threads + Wait + Sync, F: Feed, S: Sink, O: Observ
     writer: &mut S,
     observer: &mut O,
 ) -> Result<Ended, Fault>
-    requires within { IsWithinLimits command }
     requires reads { (F.seen reader.old).failures < 2 ^ 64 - 1 }
     requires writes { (S.seen writer.old).failures < 2 ^ 64 - 1 }
     ensures { IsOutcomeUnder profile.now command.entry (F.seen reader.old) (F.seen reader.new) (S.seen writer.old)
@@ -68,7 +67,7 @@ fn run_under<R: AllocGlobal + Threads + Wait + Sync, F: Feed, S: Sink, O: Observ
     }
 }
 
-/// Runs a command whose numbers are within their limits: reads to the end, builds all text, and only then writes. Returns what is to be
+/// Runs a command: reads to the end, builds all text, and only then writes. Returns what is to be
 /// told, and `Bounded` with their number if a search left blocks only bounded, `Denied` if `check` has a verdict that isn't yes or no
 /// document although it has to have one, `lint` lists a line that is refused or `compare` finds more than legal orders, `Listed` if `lint`
 /// lists other lines alone, or a strict `compare` tells of lines that it would list, and else `Done`.
@@ -85,7 +84,6 @@ pub fn run_command<R: AllocGlobal + Threads + Wait + Sync, F: Feed, S: Sink, O: 
     writer: &mut S,
     observer: &mut O,
 ) -> Result<Ended, Fault>
-    requires within { IsWithinLimits command }
     requires reads { (F.seen reader.old).failures < 2 ^ 64 - 1 }
     requires writes { (S.seen writer.old).failures < 2 ^ 64 - 1 }
     ensures { IsOutcome command.entry (F.seen reader.old) (F.seen reader.new) (S.seen writer.old)

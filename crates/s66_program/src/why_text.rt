@@ -1,8 +1,7 @@
 //! What `why` writes: what instructions wait for, and why no order is faster than a best one.
 
-ghost use Rattle.std.specs.Prelude.{◌≡◌, ◌++◌, IfOk, IfSome, OnOk};
+ghost use Rattle.std.specs.Prelude.{◌≡◌, ◌++◌, IfOk, OnOk};
 ghost use Rattle.s66_line.specs.Block.{instrs_of};
-ghost use Rattle.s66_answer.specs.SearchWithin.{IsSearchWithin};
 ghost use Rattle.s66_program.specs.WhyText.{IsWhyOutput, waits_lines, waits_part, why_lines};
 
 use crate::best_reasons::push_best_reasons;
@@ -84,7 +83,6 @@ pub(crate) fn why_output<R: AllocGlobal + Threads + Wait + Sync, O: Observer>(
     profile: &Profile,
     observer: &mut O,
 ) -> Result<Output, AllocError>
-    requires { IfSome order (λ strategy. IsSearchWithin strategy.search) }
     ensures { IfOk result (λ output.
         IsWhyOutput profile.now order text only source.now output.text.items output.status) }
 {

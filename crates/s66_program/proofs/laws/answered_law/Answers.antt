@@ -1,4 +1,3 @@
-use Rattle.std.proofs.Common.{arith}
 use Rattle.s66_answer.proofs.AnswerVerdicts.{spelled-block}
 use Rattle.s66_answer.proofs.EveryAnswer.{answer-alone, answer-bound, answer-few, answer-legal, answer-spent, answer-time}
 use Rattle.s66_program.proofs.laws.answered_law.Goals as goal
@@ -10,7 +9,7 @@ pub returns-clause-time : goal.returns-clause-time
 returns-clause-time c = answer-time
 
 pub returns-clause-bound : goal.returns-clause-bound
-returns-clause-bound c = λ strategy p text blocks block a accepted among within is. answer-bound strategy p block a (spelled-block text blocks accepted block among) (omega (arith, within)) is
+returns-clause-bound c = λ strategy p text blocks block a accepted among. answer-bound strategy p block a (spelled-block text blocks accepted block among)
 
 pub returns-clause-spent : goal.returns-clause-spent
 returns-clause-spent c = answer-spent
