@@ -1,8 +1,7 @@
 //! Commands as values, and how a test runs one; for other tests.
 
-ghost use Rattle.std.specs.Prelude.{◌≡◌};
-ghost use Rattle.s66_answer.specs.SearchWithin.{IsSearchWithin};
-ghost use Rattle.s66_program.specs.Output.{IsWithinLimits};
+ghost use Rattle.std.specs.Prelude.{◌≤◌};
+ghost use Rattle.s66_model.specs.declared.limits.TheConstants.{BUDGET_LIMIT, WORKERS_LIMIT};
 
 use s66_device::{OverRead, OverWrite};
 use s66_model::{Options, Rule};
@@ -42,17 +41,13 @@ pub(crate) const TRACED: OrderStyle = OrderStyle {
 };
 
 /// What is asked for, of all blocks, under the standard profile.
-pub(crate) fn plain(asked: Asked) -> Command<'static>
-    ensures block { result.block ≡ None }
-    ensures asked { result.asked ≡ asked }
-{
+pub(crate) fn plain(asked: Asked) -> Command<'static> {
     Command { asked, ..PLAIN }
 }
 
 /// A search by workers, of at most so many splits, by a rule.
 fn search_by(workers: u8, nodes: u32, rule: Rule) -> Strategy
-    requires { IsSearchWithin (record { workers = workers; nodes = nodes; rule = rule }) }
-    ensures { IsSearchWithin result.search }
+    requires { (1 ≤ workers) × (workers ≤ WORKERS_LIMIT) × (nodes ≤ BUDGET_LIMIT) }
 {
     Strategy {
         search: Options {
@@ -66,8 +61,7 @@ fn search_by(workers: u8, nodes: u32, rule: Rule) -> Strategy
 
 /// `order --trace` by such a search.
 pub(crate) fn order_by(workers: u8, nodes: u32, rule: Rule) -> Command<'static>
-    requires { IsSearchWithin (record { workers = workers; nodes = nodes; rule = rule }) }
-    ensures { IsWithinLimits result }
+    requires { (1 ≤ workers) × (workers ≤ WORKERS_LIMIT) × (nodes ≤ BUDGET_LIMIT) }
 {
     let style = TRACED;
     let strategy = search_by(workers, nodes, rule);
@@ -76,8 +70,7 @@ pub(crate) fn order_by(workers: u8, nodes: u32, rule: Rule) -> Command<'static>
 
 /// `prove` by such a search.
 pub(crate) fn prove_by(workers: u8, nodes: u32, rule: Rule) -> Command<'static>
-    requires { IsSearchWithin (record { workers = workers; nodes = nodes; rule = rule }) }
-    ensures { IsWithinLimits result }
+    requires { (1 ≤ workers) × (workers ≤ WORKERS_LIMIT) × (nodes ≤ BUDGET_LIMIT) }
 {
     let strategy = search_by(workers, nodes, rule);
     plain(Asked::Prove { strategy })
@@ -88,9 +81,7 @@ pub(crate) fn run<R: AllocGlobal + Threads + Wait + Sync>(
     rt: &R,
     command: Command,
     text: &[u8],
-) -> (Result<Status, Fault>, Vec<u8>)
-    requires { IsWithinLimits command }
-{
+) -> (Result<Status, Fault>, Vec<u8>) {
     let mut reader = OverRead::new(text);
     let mut writer = OverWrite::new(Vec::new(rt.alloc()));
     let result = match run_command(rt, command, &mut reader, &mut writer, &mut Silent) {
@@ -107,9 +98,7 @@ pub(crate) fn check_output<R: AllocGlobal + Abort + Threads + Wait + Sync>(
     text: &str,
     status: Status,
     output: &str,
-)
-    requires { IsWithinLimits command }
-{
+) {
     let (result, written) = run(rt, command, text.as_bytes());
     assert_eq!(rt; result, Ok(status), "{text}");
     assert_eq!(rt; written.as_slice(), output.as_bytes(), "{text}");

@@ -1,9 +1,10 @@
-//! Tests of the command line: the command that words give, and words that give none. Their table is in `words/`.
+//! Tests of the command line: the command that words give, and words that give none. Their tables are in `words/`.
 
 use crate::program::commands::{PLAIN, check_output};
 use crate::program::running::run;
-use s66_program::{Status, command_of};
-use table::COMMANDS;
+use s66_program::{Command, Status, command_of};
+use std::process::Abort;
+use table::{CHECKS, LISTINGS, ORDERS, PROOFS, SUMS, VIEWS};
 
 mod table;
 
@@ -132,11 +133,51 @@ fn runs_no_commands(rt: HostRuntime) {
     }
 }
 
+/// Checks which command some words ask for.
+fn check_words<R: AllocGlobal + Abort>(rt: &R, words: &[&str], command: Command) {
+    let read = command_of(rt.alloc(), words);
+    assert!(rt; matches!(read, Ok(read) if read == command), "{words:?}");
+}
+
 #[test]
-fn reads_words(rt: HostRuntime) {
-    for &(words, command) in COMMANDS {
-        let read = command_of(rt.alloc(), words);
-        assert!(rt; matches!(read, Ok(read) if read == command), "{words:?}");
+fn reads_words_of_listings(rt: HostRuntime) {
+    for (words, command) in LISTINGS {
+        check_words(&rt, words, command);
+    }
+}
+
+#[test]
+fn reads_words_of_views(rt: HostRuntime) {
+    for (words, command) in VIEWS {
+        check_words(&rt, words, command);
+    }
+}
+
+#[test]
+fn reads_words_of_checks(rt: HostRuntime) {
+    for (words, command) in CHECKS {
+        check_words(&rt, words, command);
+    }
+}
+
+#[test]
+fn reads_words_of_orders(rt: HostRuntime) {
+    for (words, command) in ORDERS {
+        check_words(&rt, words, command);
+    }
+}
+
+#[test]
+fn reads_words_of_proofs(rt: HostRuntime) {
+    for (words, command) in PROOFS {
+        check_words(&rt, words, command);
+    }
+}
+
+#[test]
+fn reads_words_of_sums(rt: HostRuntime) {
+    for (words, command) in SUMS {
+        check_words(&rt, words, command);
     }
 }
 

@@ -3,7 +3,7 @@
 use crate::blocks::{TWO_BOOLEANS, TWO_SUMS};
 use crate::search::finder::{found_at_first, found_by_loads};
 use crate::search::reading::{block_of, source_of};
-use s66_deep::{Prefix, Tails};
+use s66_deep::{PathWalk, Tails};
 use s66_isa::{BLOCK_LIMIT, Profile};
 use s66_line::Block;
 use s66_model::{FactLeaf, TreeLine};
@@ -12,7 +12,7 @@ use std::process::Abort;
 /// Checks the floor of an empty beginning, as paths alone have it too. A leaf says that the first instruction comes too late for this
 /// time, and none says more.
 fn check_floor<R: Abort>(rt: &R, block: &Block, tails: &[Tails; BLOCK_LIMIT], floor: u32) {
-    let prefix = Prefix::new(block, &Profile::standard(), tails);
+    let prefix = PathWalk::new(block, &Profile::standard(), tails);
     assert!(rt; !prefix.walk().is_complete());
     assert!(rt; prefix.path_floor() == floor && prefix.floor() == floor);
     assert!(rt;
@@ -46,7 +46,7 @@ const BEGINNINGS: &[(&[u8], &[u8])] = &[
 ];
 
 /// Checks that a beginning to which another went is as one that is made from nothing.
-fn check_like_made<R: Abort>(rt: &R, gone: &Prefix<'_>, made: &mut Prefix<'_>, numbers: &[u8]) {
+fn check_like_made<R: Abort>(rt: &R, gone: &PathWalk<'_>, made: &mut PathWalk<'_>, numbers: &[u8]) {
     for n in numbers {
         assert!(rt; made.try_push(*n));
     }
@@ -64,10 +64,10 @@ fn check_like_made<R: Abort>(rt: &R, gone: &Prefix<'_>, made: &mut Prefix<'_>, n
 fn check_walk<R: AllocGlobal + Abort>(rt: &R, block: &Block) {
     let profile = Profile::standard();
     let tails = found_by_loads(rt, block).tails();
-    let mut prefix = Prefix::new(block, &profile, &tails);
+    let mut prefix = PathWalk::new(block, &profile, &tails);
     for &(numbers, ready) in BEGINNINGS {
         prefix.go_to(numbers);
-        let mut made = Prefix::new(block, &profile, &tails);
+        let mut made = PathWalk::new(block, &profile, &tails);
         check_like_made(rt, &prefix, &mut made, numbers);
         assert!(rt; prefix.ready().numbers().as_slice() == ready, "{numbers:?}");
     }

@@ -1,7 +1,7 @@
 //! Tests of whole searches by several workers: what they find, and that they share the work.
 
 ghost use Rattle.std.specs.Prelude.{◌≤◌};
-ghost use Rattle.s66_model.specs.declared.limits.TheConstants.{BUDGET_LIMIT};
+ghost use Rattle.s66_model.specs.declared.limits.TheConstants.{BUDGET_LIMIT, WORKERS_LIMIT};
 
 use crate::blocks::{MULTIPLIES, SEVEN_ALIKE, SEVEN_MULTIPLIES};
 use crate::search::gates::{Meeting, Watch};
@@ -66,10 +66,7 @@ fn left_by<R: AllocGlobal + Abort + Threads + Wait + Sync, G: Gate + Sync>(
     block: &Block,
     options: Options,
     gate: &G,
-) -> Left
-    requires workers { 1 ≤ options.workers }
-    requires nodes { options.nodes ≤ BUDGET_LIMIT }
-{
+) -> Left {
     let alloc = rt.alloc();
     let profile = Profile::standard();
     let Options {
@@ -105,7 +102,7 @@ fn left_of<R: AllocGlobal + Abort + Threads + Wait + Sync, G: Gate + Sync>(
     nodes: u32,
     gate: &G,
 ) -> Left
-    requires workers { 1 ≤ workers }
+    requires workers { (1 ≤ workers) × (workers ≤ WORKERS_LIMIT) }
     requires nodes { nodes ≤ BUDGET_LIMIT }
 {
     let source = source_of(rt, code);
@@ -165,7 +162,7 @@ const SETS: u32 = 127;
 #[test]
 fn work_is_done(rt: HostRuntime) {
     for &(code, rule, workers, splits, bound) in SEARCHES {
-        assert!(rt; 1 <= workers);
+        assert!(rt; 1 <= workers && workers <= WORKERS_LIMIT);
         let left = left_of(&rt, code, rule, workers, BUDGET_LIMIT, &Free);
         assert!(rt; left.splits == splits && left.bound == bound, "{code}");
         assert!(rt; left.finished == (bound, bound, splits), "{code}");
@@ -326,13 +323,13 @@ fn check_run<R: AllocGlobal + Abort + Threads + Wait + Sync, G: Gate + Sync>(
     wanted: &Run,
     gate: &G,
 ) {
+    let (workers, nodes, rule) = (wanted.workers, wanted.nodes, wanted.rule);
+    assert!(rt; 1 <= workers && workers <= WORKERS_LIMIT && nodes <= BUDGET_LIMIT);
     let options = Options {
-        workers: wanted.workers,
-        nodes: wanted.nodes,
-        rule: wanted.rule,
+        workers,
+        nodes,
+        rule,
     };
-    assert!(rt; 1 <= options.workers && options.workers <= WORKERS_LIMIT);
-    assert!(rt; options.nodes <= BUDGET_LIMIT);
     let source = source_of(rt, wanted.code);
     let block = block_of(rt, &source);
     let answer = run(rt, block, &Profile::standard(), options, gate).expect(rt, "memory");
