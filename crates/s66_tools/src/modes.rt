@@ -29,15 +29,16 @@ pub(crate) enum Mode {
     Run(Options),
 }
 
-/// How workers search, with at most a number of splits; the words say how many workers, one if they don't.
+/// How workers search, with at most a number of splits; the words say how many workers, one if they don't. Both numbers are
+/// brought within their limits.
 fn options_of(words: &[String], nodes: u32) -> Option<Options> {
     let workers = match words.get(3) {
         Some(word) => word.parse::<u8>().ok()?,
         None => 1,
     };
     Some(Options {
-        workers,
-        nodes,
+        workers: workers.max(1).min(WORKERS_LIMIT),
+        nodes: nodes.min(BUDGET_LIMIT),
         rule: Rule::NoneNamed,
     })
 }
@@ -88,12 +89,7 @@ fn run_block<R: AllocGlobal + Threads + Wait + Sync>(
             (counts.best as u64, counts)
         }
         Mode::Run(options) => {
-            let within = Options {
-                workers: options.workers.max(1).min(WORKERS_LIMIT),
-                nodes: options.nodes.min(BUDGET_LIMIT),
-                rule: options.rule,
-            };
-            let counts = search_by_workers(rt, block, &profile, within)?;
+            let counts = search_by_workers(rt, block, &profile, options)?;
             (counts.best as u64, counts)
         }
     })

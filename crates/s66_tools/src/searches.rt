@@ -60,10 +60,7 @@ pub(crate) fn search_by_workers<R: AllocGlobal + Threads + Wait + Sync>(
     block: &Block,
     profile: &Profile,
     options: Options,
-) -> Result<Counts, AllocError>
-    requires workers { 1 ≤ options.workers }
-    requires nodes { options.nodes ≤ BUDGET_LIMIT }
-{
+) -> Result<Counts, AllocError> {
     let alloc = rt.alloc();
     let Options {
         workers,
