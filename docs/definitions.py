@@ -29,10 +29,10 @@ VARIABLE = re.compile(r"(?!(?:zero|true|false)$)[a-z][\w']*")
 TAIL = re.compile(r"\((?:suc|.* ∷) ([a-z]\w*)\)+")
 WORD = re.compile(r"(?<![\w.'-])[A-Za-z][\w']*(?:-\w+)*(?:\.[a-z]\w*)*")
 LABEL = re.compile(r"(^ +(?:pub )?|[{;] *)[A-Za-z][\w'-]*(?= [:=] )", re.MULTILINE)  # of a field
-IMPORTED = re.compile(r"^use Rattle\.(s66_\w+)\.specs\.(\w+)\.\{([^}]*)\}", re.MULTILINE)
+IMPORTED = re.compile(r"^ *(?:ghost )?use Rattle\.(s66_\w+)\.specs(?:\.(\w+))?\.\{([^}]*)\}", re.MULTILINE)
 DECLARED = re.compile(r"^use Rattle\.(s66_\w+)\.specs\.declared\.(\w+)\.(\w+)", re.MULTILINE)
 RENAMED = re.compile(r"^use Rattle\.(s66_\w+)\.specs\.(\w+) as (\w+)$", re.MULTILINE)
-GHOST = re.compile(r"^ *ghost use Rattle\.(s66_\w+)\.specs\.(\w+)\.\{([^}]*)\}", re.MULTILINE)
+PASSED_ON = re.compile(r"^pub use declared\.(\w+)\.(\w+)(?:\.TheVariants)?\.\{([^}]*)\}", re.MULTILINE)  # in a crate's Lib.antt
 EMPTY = re.compile(r"((?:^///.*\n)+)(?:^#\[.*\n)*^pub fn (\w+)\(\)\n((?:^ .*\n)+)^\{\}$", re.MULTILINE)
 TYPE = r"((?:^///.*\n)+)(?:^#\[.*\n)*^pub(?:\(\w+\))? (struct|enum) %s\b(?:.*\{\n((?:(?!\}).*\n)*))?"
 CASE = re.compile(r"((?:^    ///.*\n)*)(?:^    #\[.*\n)*^    (\w+)", re.MULTILINE)
@@ -196,19 +196,50 @@ def first_comment(lines):
     return paragraphs
 
 
+def names_in(words):
+    return [word.strip() for word in words.split(",")]
+
+
+def imports_of(text, offers):
+    """The definitions that a file imports, by its names for them: of each the crate, the file and its name there."""
+    found = {}
+    for crate, file, words in IMPORTED.findall(text):
+        for name in names_in(words):
+            found[name] = (crate, file, name) if file else offers[crate].definitions.get(name)
+    return {name: place for name, place in found.items() if place}
+
+
+def types_in(text, offers):
+    """The types of the code, and their modules, that a file of definitions imports."""
+    named = [(crate, name) for crate, file, words in IMPORTED.findall(text) for name in names_in(words) if not file]
+    return set(DECLARED.findall(text)) | {offers[crate].types[name] for crate, name in named if name in offers[crate].types}
+
+
+class Offers:
+    """What a crate's specs/Lib.antt passes on of its files and of its types, by the names."""
+
+    def __init__(self, crate, files):
+        self.definitions, self.types = {}, {}
+        for definition, file in ((definition, file) for file in files for definition in file.definitions()):
+            cases = [part for part, _ in definition.parts()] if definition.kind == "data" else []
+            self.definitions.update({name: (crate, file.name, name) for name in (definition.name, *cases)})
+        lib = f"crates/{crate}/specs/Lib.antt"
+        text = read(lib) if os.path.exists(os.path.join(ROOT, lib)) else ""
+        for module, name, words in PASSED_ON.findall(text):
+            self.types.update({word: (crate, module, name) for word in names_in(words)})
+
+
 class Specs:
     """A file of a crate's specs/: what its first lines say of it, and its definitions, under its notes."""
 
-    def __init__(self, crate, name):
+    def __init__(self, crate, name, offers):
         self.crate, self.name = crate, name
         self.path = f"crates/{crate}/specs/{name}.antt"
         text = read(self.path)
         lines = text.splitlines()
         self.first, *self.paragraphs = first_comment(lines)
-        self.imports = {}
-        for of, file, names in IMPORTED.findall(text):
-            self.imports.update({name.strip(): (of, file, name.strip()) for name in names.split(",")})
-        self.declared = set(DECLARED.findall(text))
+        self.imports = imports_of(text, offers)
+        self.declared = types_in(text, offers)
         self.renamed = {short: (of, file) for of, file, short in RENAMED.findall(text)}
         self.items = []  # definitions, and notes that stand by themselves
         comment, indent = [], ""
@@ -262,10 +293,11 @@ class House:
     """The specs files of all crates, in the order in which each crate lists them."""
 
     def __init__(self):
-        self.specs = {}
+        self.specs, self.offers = {}, {}
         for crate in crates():
-            for name in files_in(crate, "specs"):
-                self.specs[crate, name] = Specs(crate, name)
+            files = [Specs(crate, name, self.offers) for name in files_in(crate, "specs")]
+            self.specs.update({(crate, file.name): file for file in files})
+            self.offers[crate] = Offers(crate, files)
         self.owners = {}  # of each case of a type, the type
         for (crate, name), specs in self.specs.items():
             for definition in specs.definitions():
@@ -367,19 +399,18 @@ def sources_of(crate):
         yield from (os.path.relpath(os.path.join(folder, name), ROOT) for name in sorted(names))
 
 
-def empty_functions(crate):
+def empty_functions(crate, house):
     """The laws and the examples of a crate, file after file."""
     for path in sources_of(crate):
-        text, imports = read(path), {}
-        for of, file, words in GHOST.findall(text):
-            imports.update({word.strip(): (of, file, word.strip()) for word in words.split(",")})
+        text = read(path)
+        imports = imports_of(text, house.offers)
         for comment, function, clauses in EMPTY.findall(text):
             yield Empty(function, comment, {imports[word] for word in WORD.findall(clauses) if word in imports})
 
 
 def definitions(house):
     """What DEFINITIONS.md has after its head."""
-    functions = [(function, crate) for crate in crates() for function in empty_functions(crate)]
+    functions = [(function, crate) for crate in crates() for function in empty_functions(crate, house)]
     worked = {}
     for function, _ in functions:
         for used in function.used if function.is_example else ():
@@ -516,7 +547,7 @@ def publics_of(crate, left_out):
 def laws_and_calls(house):
     """What PROMISES.md has of laws and of public calls."""
     yield "\n## What the definitions mean\n\n| Promise | Contract |\n|---|---|\n"
-    empty = {crate: list(empty_functions(crate)) for crate in crates()}
+    empty = {crate: list(empty_functions(crate, house)) for crate in crates()}
     for crate in crates():
         for function in empty[crate]:
             if not function.is_example:

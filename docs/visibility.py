@@ -5,7 +5,8 @@
 
 Public is what the lib.rt of a crate exports: a function, type, trait or constant that it names in a `pub use`, and the
 methods and fields of such a type. All else of a crate is pub(crate), or private to its module. A name that a file
-imports stands in it once more, but for a trait of the standard library, whose methods may be all that is used.
+imports stands in it once more, but for a trait of the standard library, whose methods may be all that is used. And
+each definition or type that the specs/Lib.antt of a crate passes on is imported from there.
 
 Each line that is otherwise is told, and docs/check.py tells it too. The status is 1 where one is.
 """
@@ -22,6 +23,8 @@ ITEM = re.compile(r"pub (?:const fn|fn|struct|enum|trait|const|type) (\w+)")
 TYPE = re.compile(r"(?:pub(?:\(crate\))? )?(?:struct|enum|trait) (\w+)")
 IMPL = re.compile(r"impl(?:<[^{]*?>)? (?:[\w:]+(?:<[^{]*>)? for )?(\w+)")
 MEMBER = re.compile(r"    pub (?!use)")
+PASSED_ON = re.compile(r"^(?:unfoldable )?pub use [\w.]+\.\{([^}]*)\}", re.MULTILINE)
+FROM_CRATE = re.compile(r"use Rattle\.(\w+)\.specs\.\{([^}]*)\}")
 COMMENT = re.compile(r"^ *(//|--).*", re.MULTILINE)
 
 
@@ -101,13 +104,36 @@ def unused(crate):
                     yield path, text, use.start(), name
 
 
+def split(words):
+    return [word.split(" as ")[0].strip() for word in words.split(",")]
+
+
+def from_crates():
+    """What all files import from crates, as the crate and the name."""
+    paths = files(os.path.join(ROOT, "crates/*"), "src/**/*.rt", "specs/**/*.antt", "proofs/**/*.antt")
+    return {(crate, name) for path in paths for crate, words in FROM_CRATE.findall(read(path)) for name in split(words)}
+
+
+def idle(crate, imported):
+    """What its specs/Lib.antt passes on for nobody: the file, its text, the place and the name there."""
+    for path in files(crate, "specs/Lib.antt"):
+        text = read(path)
+        for line in PASSED_ON.finditer(text):
+            for name in split(line.group(1)):
+                if (os.path.basename(crate), name) not in imported:
+                    yield path, text, line.start(), name
+
+
 def wrong():
     """What is otherwise than it is to be, told line by line."""
+    imported = from_crates()
     for crate in sorted(glob.glob(os.path.join(ROOT, "crates/*"))):
         for path, text, place, name in too_public(crate):
             yield shown(path, text, place, f"{name} is public, and lib.rt doesn't export it")
         for path, text, place, name in unused(crate):
             yield shown(path, text, place, f"{name} is imported and not used")
+        for path, text, place, name in idle(crate, imported):
+            yield shown(path, text, place, f"{name} is passed on, and no file imports it from here")
 
 
 if __name__ == "__main__":
