@@ -7,7 +7,7 @@ use Rattle.std.proofs.lemmas.List.Sums.{take_while-cons}
 use Rattle.std.proofs.lemmas.Option.{slice_get-map}
 use Rattle.s66_isa.specs.Lists.{every}
 use Rattle.s66_line.specs.Class.{class_of}
-use Rattle.s66_line.specs.Fields.{body, continues, is_comment, is_newline, is_trailing, lines_of, operation, trim, upper}
+use Rattle.s66_line.specs.Fields.{body, continues, is_comment, is_newline, is_trailing, lines_of, operation, upper}
 use Rattle.s66_line.proofs.Wholes.{AreLines-lines_of}
 use Rattle.s66_source.specs.Counts.{counting_text, is_one_of, with_cover}
 use Rattle.s66_source.specs.LeftAlone.{Flagged, Reading, after_line, after_operation, at_first, directive_cover, flagged_from, flagged_lines, has_operation, is_alone, is_continued, is_directive, is_doubtful, is_off_switch, is_on_switch, off_after, plain, redefined_by, with_directive}
@@ -18,6 +18,7 @@ use Rattle.s66_source.specs.Source.{Line, classed_lines}
 use Rattle.s66_source.specs.LeftAlone.{Standing}
 use Rattle.s66_source.proofs.DefinedNames.{defined_by-append}
 use Rattle.s66_source.proofs.FlaggedLines.{bytes-flagged}
+use Rattle.s66_source.proofs.ReadLine.{every-trimmed}
 use Rattle.s66_source.proofs.AloneLines.{alone-none}
 use Rattle.s66_lint.specs.Guarded.{Begins, Ends, Kept, Mark, MarkedLine, GuardedLine, beginnings, between, guarded_bytes, flag_of, guarded, guarded_flags, guarded_lines, is_left_alone, marked_line, marked_lines, read_flags, shown_reason, source_lines, unmarked, written_from}
 use Rattle.s66_lint.specs.Listing.{after_blank}
@@ -61,13 +62,6 @@ every-taken test (suc n) [] h = refl
 every-taken test (suc n) (b ∷ bytes) h =
     let (here, rest) = and_parts (test b) (every test bytes) h in
     and_from (test b) (every test (take n bytes)) here (every-taken test n bytes rest)
-
-every-trimmed : (test cut : ℕ → Bool) (bytes : List ℕ) → every test bytes ≡ true → every test (trim cut bytes) ≡ true
-every-trimmed test cut [] h = refl
-every-trimmed test cut (b ∷ bytes) h =
-    let (here, rest) = and_parts (test b) (every test bytes) h in
-    elim (every cut (b ∷ bytes)) as (λ t. every test (if t then [] else b ∷ trim cut bytes) ≡ true)
-    [ true ↦ refl | false ↦ and_from (test b) (every test (trim cut bytes)) here (every-trimmed test cut bytes rest) ]
 
 first-passes : (t : Bool) (test : ℕ → Bool) (b : ℕ) (more : List ℕ) → test b ≡ t → every test more ≡ true → every test (cond t (b ∷ more) []) ≡ true
 first-passes true test b more stated h = and_from (test b) (every test more) stated h
