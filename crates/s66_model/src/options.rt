@@ -8,9 +8,9 @@ use crate::rule::Rule;
 /// How a block's orders are searched.
 #[derive(Clone, Copy, PartialEq, Eq)]
 pub struct Options {
-    /// How many workers search.
+    /// How many workers search: 1 to `WORKERS_LIMIT`.
     pub workers: u8,
-    /// The most splits of the search.
+    /// The most splits of the search, at most `BUDGET_LIMIT`.
     pub nodes: u32,
     /// Which nodes dominated leaves name; by `NoneNamed` no leaf is dominated.
     pub rule: Rule,
