@@ -67,12 +67,11 @@ fn run_under<R: AllocGlobal + Threads + Wait + Sync, F: Feed, S: Sink, O: Observ
     }
 }
 
-/// Runs a command: reads to the end, builds all text, and only then writes. Returns what is to be
-/// told, and `Bounded` with their number if a search left blocks only bounded, `Denied` if `check` has a verdict that isn't yes or no
-/// document although it has to have one, `lint` lists a line that is refused or `compare` finds more than legal orders, `Listed` if `lint`
-/// lists other lines alone, or a strict `compare` tells of lines that it would list, and else `Done`.
-/// An observer is called as the work goes on, and when it has ended, before anything is written; what it does changes nothing of what is
-/// written and returned.
+/// Runs a command: reads to the end, builds all text, and only then writes. Returns what is to be told, and `Bounded` with their number
+/// if a search left blocks only bounded, `Denied` if `check` has a verdict that isn't yes or no document although it has to have one,
+/// `lint` lists a line that is refused or `compare` finds more than legal orders, `Listed` if `lint` lists other lines alone, or a strict
+/// `compare` tells of lines that it would list, and else `Done`. An observer is called as the work goes on, and when it has ended, before
+/// anything is written; what it does changes nothing of what is written and returned.
 ///
 /// Errors: `Profile` if the text for the profile gives none, and then nothing was read; `Source` or `Document` if the source or
 /// the documents were refused, with the reason; `Memory` if memory ran out; `Read` if the reader failed or none of `FEED_CALLS`
