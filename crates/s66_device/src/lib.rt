@@ -9,4 +9,4 @@ mod text;
 
 pub use device::{Failed, Feed, OverRead, OverWrite, Sink, WriteError, write_all};
 pub use limits::FAULT_ROOM;
-pub use text::{line_refusal, push_field, short_text};
+pub use text::{line_refusal, push_between, push_field, short_text};

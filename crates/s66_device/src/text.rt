@@ -17,6 +17,19 @@ pub fn push_field(out: &mut Vec<u8>, name: &[u8], number: usize) -> Result<(), A
     out.extend_from_slice(buffer.format(number).as_bytes())
 }
 
+/// Appends a number in decimal, and texts before and after it. `Err` is out of memory.
+pub fn push_between(
+    out: &mut Vec<u8>,
+    before: &[u8],
+    number: usize,
+    after: &[u8],
+) -> Result<(), AllocError>
+    ensures { OnOk result (out.new.items ≡ out.old.items ++ (before.now ++ decimal number ++ after.now)) }
+{
+    push_field(out, before, number)?;
+    out.extend_from_slice(after)
+}
+
 /// A text of a few bytes.
 pub fn short_text(text: &str) -> ArrayString<FAULT_ROOM>
     requires { length text.now < FAULT_ROOM }

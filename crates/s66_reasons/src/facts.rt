@@ -16,11 +16,11 @@ ghost use Rattle.s66_reasons.specs.Words.{listed};
 ghost use Rattle.s66_reasons.specs.FactWords.{begins, by_parcels, by_unit, could_words, fact_sentence, from_words, has_words, in_all, issues_words, last_words, late_words, left_to, load_end, load_sentence, many_words, mixed_words, need_words, one_words, pair_sentence, pair_words, rest_words, side_by_side, so_words, soonest_known, to_words, units_words, until_words, which_words};
 
 use crate::units::{kind_of, push_each};
-use crate::words::{push_around, push_between, push_instruction, separator, unit_name};
+use crate::words::{push_around, push_instruction, separator, unit_name};
 use crate::work::Work;
 use s66_cert::Document;
 use s66_checker::Prefix;
-use s66_device::push_field;
+use s66_device::{push_between, push_field};
 use s66_facts::Facts;
 use s66_isa::Kind;
 use s66_moments::{FactLine, LoadLine, Moment, Stage};

@@ -13,11 +13,10 @@ ghost use Rattle.s66_reasons.specs.Within.{IsGranted, IsRight, vertex_text};
 use crate::known_paths::KnownPaths;
 use crate::leaf::push_leaf;
 use crate::tree::is_split;
-use crate::words::push_between;
 use arrayvec::ArrayVec;
 use s66_cert::{Document, TreeLine};
 use s66_checker::Prefix;
-use s66_device::push_field;
+use s66_device::{push_between, push_field};
 use std::alloc::AllocError;
 
 /// The numbers after the first, one after the other, and the end of the line.

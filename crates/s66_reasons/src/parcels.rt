@@ -8,9 +8,10 @@ ghost use Rattle.s66_checker.specs.Verdict.{problem_of};
 ghost use Rattle.s66_reasons.specs.Words.{row_text, rows_text};
 ghost use Rattle.s66_reasons.specs.Reasons.{if_last_words, last_row, slot_after};
 
-use crate::words::{push_around, push_between, push_number};
+use crate::words::{push_around, push_number};
 use s66_cert::Document;
 use s66_checker::{Prefix, next, own_parcels, remaining_parcels, tail};
+use s66_device::push_between;
 use std::alloc::AllocError;
 
 /// When the end is if n issues last, in this slot, and takes this time.

@@ -10,9 +10,10 @@ use crate::chain::{push_end_words, push_link_words};
 use crate::hop::Hop;
 use crate::known_paths::KnownPaths;
 use crate::words::{
-    push_around, push_between, push_counted, push_instruction, push_number, separator, unit_name,
+    push_around, push_counted, push_instruction, push_number, separator, unit_name,
 };
 use s66_cert::Document;
+use s66_device::push_between;
 use s66_isa::{Kind, Reg};
 use s66_moments::{Moment, Stage};
 use s66_why::push_register_name;

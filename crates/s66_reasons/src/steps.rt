@@ -15,9 +15,10 @@ ghost use Rattle.s66_reasons.specs.Within.{AreBegun};
 
 use crate::facts::{push_fact, push_pair_words, push_rest};
 use crate::left::to_show_after;
-use crate::words::{push_around, push_between};
+use crate::words::push_around;
 use s66_cert::Document;
 use s66_checker::{Prefix, fact_lines};
+use s66_device::push_between;
 use s66_facts::{Facts, Supposing, reaches_both};
 use s66_moments::FactStep;
 use std::alloc::AllocError;

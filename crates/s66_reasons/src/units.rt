@@ -11,11 +11,11 @@ ghost use Rattle.s66_reasons.specs.Reasons.{after_words, before_words, how_long_
 ghost use Rattle.s66_reasons.specs.Words.{each_words, longest_use, row_text};
 ghost use Rattle.s66_reasons.specs.Within.{AreWithin};
 
-use crate::words::{push_between, push_instructions, push_number, unit_name};
+use crate::words::{push_instructions, push_number, unit_name};
 use arrayvec::ArrayVec;
 use s66_cert::Document;
 use s66_checker::{Prefix, load, next, remaining_work, rest_busy};
-use s66_device::push_field;
+use s66_device::{push_between, push_field};
 use s66_isa::{BLOCK_LIMIT, Kind, is_same_kind};
 use std::alloc::AllocError;
 

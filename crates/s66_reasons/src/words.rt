@@ -1,6 +1,6 @@
 //! Words, numbers and lists of instructions, of which the sentences are made.
 
-ghost use Rattle.std.specs.Prelude.{◌≡◌, ◌++◌, OnOk, codes, decimal};
+ghost use Rattle.std.specs.Prelude.{◌≡◌, ◌++◌, OnOk, codes};
 ghost use Rattle.s66_cert.specs.DocumentParts.{document_of};
 ghost use Rattle.s66_reasons.specs.Words.{counted, instruction, listed, separator, unit_name};
 ghost use Rattle.s66_why.specs.Why.{on_right};
@@ -10,19 +10,6 @@ use s66_device::push_field;
 use s66_isa::Kind;
 use s66_why::push_on_right;
 use std::alloc::AllocError;
-
-/// Words with a number between.
-pub(crate) fn push_between(
-    out: &mut Vec<u8>,
-    before: &[u8],
-    number: usize,
-    after: &[u8],
-) -> Result<(), AllocError>
-    ensures { OnOk result (out.new.items ≡ out.old.items ++ (before.now ++ decimal number ++ after.now)) }
-{
-    push_field(out, before, number)?;
-    out.extend_from_slice(after)
-}
 
 /// A number right in four places, and two blanks.
 pub(crate) fn push_number(out: &mut Vec<u8>, number: usize) -> Result<(), AllocError>

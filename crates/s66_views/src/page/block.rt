@@ -7,8 +7,8 @@ ghost use Rattle.s66_views.specs.Page.{best_cell, best_text, block_anchor, block
 use crate::page::escape::{push_escaped, push_escaped_lines};
 use crate::page::order::push_order;
 use crate::page::summary::{Summary, Total};
-use crate::page::text::{push_between, push_text, push_two};
-use s66_device::push_field;
+use crate::page::text::{push_text, push_two};
+use s66_device::{push_between, push_field};
 use s66_line::Block;
 use s66_time::Timed;
 use std::alloc::AllocError;

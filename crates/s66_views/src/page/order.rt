@@ -8,8 +8,9 @@ ghost use Rattle.s66_why.specs.Units.{works};
 
 use crate::page::register::push_register_rows;
 use crate::page::row::push_rows;
-use crate::page::text::{push_between, push_number_at, push_text};
+use crate::page::text::{push_number_at, push_text};
 use crate::page::unit::push_all_kind_rows;
+use s66_device::push_between;
 use s66_line::Block;
 use s66_time::Timed;
 use s66_why::{path_of, points_of, push_why, steps_of, works_of};

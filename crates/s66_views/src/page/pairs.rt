@@ -13,12 +13,13 @@ use crate::page::escape::push_escaped;
 use crate::page::order::push_order;
 use crate::page::page::{Part, push_profile_line};
 use crate::page::start::{PAGE_HEAD, PAGE_PAIRS, PAGE_START};
-use crate::page::text::{push_between, push_text};
+use crate::page::text::push_text;
 use s66_command::changes_of;
 use s66_compare::{
     BlockVerdict, Compared, Difference, Judged, Row, aligned_rows, difference_of, is_accepted,
     push_ending, push_row,
 };
+use s66_device::push_between;
 use s66_isa::Profile;
 use s66_line::Block;
 use s66_source::Source;

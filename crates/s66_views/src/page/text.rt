@@ -20,19 +20,6 @@ pub(crate) fn push_number(out: &mut Vec<u8>, number: u8) -> Result<(), AllocErro
     push_field(out, b"", number as usize)
 }
 
-/// Appends a number between two texts.
-pub(crate) fn push_between(
-    out: &mut Vec<u8>,
-    before: &[u8],
-    number: usize,
-    after: &[u8],
-) -> Result<(), AllocError>
-    ensures { OnOk result (out.new.items ≡ out.old.items ++ (before.now ++ decimal number ++ after.now)) }
-{
-    push_field(out, before, number)?;
-    push_text(out, after)
-}
-
 /// Appends two numbers before, between and after texts.
 pub(crate) fn push_two(
     out: &mut Vec<u8>,
