@@ -23,23 +23,13 @@ load-bound low le order legal =
     let (begins, completes) = legal-parts one_load [] order legal in
     tree-sound load_problem low [] order (Alone (Chain (1 ∷ 2 ∷ []))) begins completes ((omega arith, (refl, refl, refl)), le)
 
-pub returns-clause-bound_12 : goal.returns-clause-bound_12
-returns-clause-bound_12 c = load-bound 12 (omega arith)
-
-pub returns-clause-bound_11 : goal.returns-clause-bound_11
-returns-clause-bound_11 c = load-bound 11 (omega arith)
-
-pub returns-clause-no_bound_13 : goal.returns-clause-no_bound_13
+pub returns : goal.returns
 unfolding row issue_of start_of point
-returns-clause-no_bound_13 c = λ bound. absurd (omega (arith, bound (1 ∷ 3 ∷ 2 ∷ []) load-legal))
-
-pub returns-clause-best_12 : goal.returns-clause-best_12
-unfolding row issue_of start_of point
-returns-clause-best_12 c = ((1 ∷ 3 ∷ 2 ∷ [], load-legal, refl), load-bound 12 (omega arith))
-
-pub returns-clause-no_best_13 : goal.returns-clause-no_best_13
-unfolding row issue_of start_of point
-returns-clause-no_best_13 c = λ best. absurd (omega (arith, best.1 (1 ∷ 3 ∷ 2 ∷ []) load-legal))
-
-pub returns-clause-no_best_11 : goal.returns-clause-no_best_11
-returns-clause-no_best_11 c = λ best. (let (order, legal, time) = best.0 in absurd (omega (arith, time, load-bound 12 (omega arith) order legal)))
+returns c = record {
+  bound_12 = load-bound 12 (omega arith);
+  bound_11 = load-bound 11 (omega arith);
+  no_bound_13 = λ bound. absurd (omega (arith, bound (1 ∷ 3 ∷ 2 ∷ []) load-legal));
+  best_12 = ((1 ∷ 3 ∷ 2 ∷ [], load-legal, refl), load-bound 12 (omega arith));
+  no_best_13 = λ best. absurd (omega (arith, best.1 (1 ∷ 3 ∷ 2 ∷ []) load-legal));
+  no_best_11 = λ best. (let (order, legal, time) = best.0 in absurd (omega (arith, time, load-bound 12 (omega arith) order legal)));
+}

@@ -18,24 +18,16 @@ module _ (rule : Rule) (b : Problem) (prefix : List ℕ) (tree : Tree Terminal) 
   true-values at (StatedFrontier value) h = ap (λ v. v ∷ []) h.0
   true-values at (StatedPassed value name) h = refl
 
-pub returns-clause-piece : goal.returns-clause-piece
-returns-clause-piece c = λ rule b prefix stated h.
-    (let tree = tree_stated b prefix stated in
-    seen-holds (terminal_of b) b.block (TerminalHolds rule b prefix tree) stated prefix (tree-weaken b.block (StatedHolds rule b prefix tree) (λ at terminal. TerminalHolds rule b prefix tree at (terminal_of b at terminal)) (terminal-holds rule b prefix tree) stated prefix h))
-
-pub returns-clause-terminals : goal.returns-clause-terminals
-returns-clause-terminals c = λ rule b prefix stated matches is. holds-seen (terminal_of b) b.block (TerminalHolds rule b prefix (tree_stated b prefix stated)) stated prefix matches is
-
-pub returns-clause-matches : goal.returns-clause-matches
-returns-clause-matches c = λ b prefix stated matches. seen-match (terminal_of b) stated prefix matches
-
-pub returns-clause-splits : goal.returns-clause-splits
-returns-clause-splits c = λ b prefix stated matches. seen-splits (terminal_of b) stated prefix matches
-
-pub returns-clause-split_at : goal.returns-clause-split_at
-returns-clause-split_at c = λ b prefix stated. seen-split_at (terminal_of b) stated prefix
-
-pub returns-clause-values : goal.returns-clause-values
-returns-clause-values c = λ rule b prefix stated h.
-    values-alike b.block (StatedHolds rule b prefix (tree_stated b prefix stated)) (λ at terminal. stated_values terminal) (λ at terminal. terminal_floors b at (terminal_of b at terminal)) (true-values rule b prefix (tree_stated b prefix stated)) stated prefix h
-    ∙ sym (seen-values (terminal_of b) (terminal_floors b) stated prefix)
+pub returns : goal.returns
+returns c = record {
+  piece = λ rule b prefix stated h.
+      (let tree = tree_stated b prefix stated in
+      seen-holds (terminal_of b) b.block (TerminalHolds rule b prefix tree) stated prefix (tree-weaken b.block (StatedHolds rule b prefix tree) (λ at terminal. TerminalHolds rule b prefix tree at (terminal_of b at terminal)) (terminal-holds rule b prefix tree) stated prefix h));
+  terminals = λ rule b prefix stated matches is. holds-seen (terminal_of b) b.block (TerminalHolds rule b prefix (tree_stated b prefix stated)) stated prefix matches is;
+  matches = λ b prefix stated matches. seen-match (terminal_of b) stated prefix matches;
+  splits = λ b prefix stated matches. seen-splits (terminal_of b) stated prefix matches;
+  split_at = λ b prefix stated. seen-split_at (terminal_of b) stated prefix;
+  values = λ rule b prefix stated h.
+      values-alike b.block (StatedHolds rule b prefix (tree_stated b prefix stated)) (λ at terminal. stated_values terminal) (λ at terminal. terminal_floors b at (terminal_of b at terminal)) (true-values rule b prefix (tree_stated b prefix stated)) stated prefix h
+      ∙ sym (seen-values (terminal_of b) (terminal_floors b) stated prefix);
+}

@@ -7,20 +7,14 @@ use Rattle.s66_model.proofs.FloorParts.{floor-parts, rest-some, parcels-static, 
 use Rattle.s66_model.proofs.UnitLoad.{load-parts}
 use Rattle.s66_model.proofs.tails.floor_parts_law.Goals as goal
 
-pub returns-clause-greatest : goal.returns-clause-greatest
-returns-clause-greatest c = floor-parts
-
-pub returns-clause-parcels : goal.returns-clause-parcels
-returns-clause-parcels c = λ b prefix begins short. parcels-static b prefix (rest-some b prefix begins short)
-
-pub returns-clause-loads : goal.returns-clause-loads
-returns-clause-loads c = λ b prefix words kind known.
-    let sum = weigh (λ n. get_or words (n - 1) 0) (remaining b.block prefix) in
-    let busy = weigh (rest_busy kind (next (points_of b prefix))) (points_of b prefix) in
-    sym (load-parts b prefix kind words (remaining b.block prefix) sum busy (copies b kind) (next (points_of b prefix)) known refl refl refl refl refl)
-
-pub returns-clause-sums : goal.returns-clause-sums
-returns-clause-sums c = λ b prefix words f known. left-sum b prefix f words known
-
-pub returns-clause-fits : goal.returns-clause-fits
-returns-clause-fits c = leaf-small
+pub returns : goal.returns
+returns c = record {
+  greatest = floor-parts;
+  parcels = λ b prefix begins short. parcels-static b prefix (rest-some b prefix begins short);
+  loads = λ b prefix words kind known.
+      let sum = weigh (λ n. get_or words (n - 1) 0) (remaining b.block prefix) in
+      let busy = weigh (rest_busy kind (next (points_of b prefix))) (points_of b prefix) in
+      sym (load-parts b prefix kind words (remaining b.block prefix) sum busy (copies b kind) (next (points_of b prefix)) known refl refl refl refl refl);
+  sums = λ b prefix words f known. left-sum b prefix f words known;
+  fits = leaf-small;
+}

@@ -30,14 +30,12 @@ graft-brief : (w node : ℕ) (own : Bool) (prefix : List ℕ) (tree : Tree Termi
 graft-brief w node own prefix tree Taken = refl
 graft-brief w node own prefix tree reply = refl
 
-pub returns-clause-graft : goal.returns-clause-graft
-returns-clause-graft c = λ rule b w node r p prefix tree reply event (own, taken, is, opens, e).
-    (ap brief e ∙ (graft-brief w node own prefix taken reply ∙ ap (λ n. Grafts node n) (sym (tree-opened tree taken opens))))
-
-pub returns-clause-spends : goal.returns-clause-spends
-returns-clause-spends c = λ rule b w node r p prefix tree event (own, taken, is, opens, e).
-    ap (λ x. spends x Taken) e ∙ sym (tree-opened tree taken opens)
-
-pub returns-clause-offer : goal.returns-clause-offer
-returns-clause-offer c = λ b w p order event other (own, is, e) (own2, is2, e2).
-    e ∙ (ap (λ o. Offer w o order (total_of p order)) (own-same b p own own2 is is2) ∙ sym e2)
+pub returns : goal.returns
+returns c = record {
+  graft = λ rule b w node r p prefix tree reply event (own, taken, is, opens, e).
+      (ap brief e ∙ (graft-brief w node own prefix taken reply ∙ ap (λ n. Grafts node n) (sym (tree-opened tree taken opens))));
+  spends = λ rule b w node r p prefix tree event (own, taken, is, opens, e).
+      ap (λ x. spends x Taken) e ∙ sym (tree-opened tree taken opens);
+  offer = λ b w p order event other (own, is, e) (own2, is2, e2).
+      e ∙ (ap (λ o. Offer w o order (total_of p order)) (own-same b p own own2 is is2) ∙ sym e2);
+}

@@ -12,17 +12,6 @@ use Rattle.s66_model.proofs.Beginnings.{source-legal}
 use Rattle.s66_model.proofs.LedgerSteps.{open_closed, cut_closed}
 use Rattle.s66_model.proofs.machine.node_table.loose_split_law.Goals as goal
 
-pub returns-clause-covers : goal.returns-clause-covers
-unfolding row issue_of start_of point conflict
-returns-clause-covers c =
-    record {
-      once = λ order legal. refl;
-      nodes = ((tt, λ ending e. absurd (open_closed ending e)), (((refl, tt), λ ending e. absurd (cut_closed ending e)), tt));
-      best = source-legal load_problem.block;
-      spent = refl;
-      sum = refl;
-    }
-
 -- if a child of the empty prefix is split, the empty prefix is too
 some-split : (ns : List ℕ) (siblings : Siblings Ending) → Among (1 ∷ []) (siblings_split_at [] ns siblings) → 1 ≤ sibling_splits siblings
 some-split [] siblings h = absurd h
@@ -35,9 +24,17 @@ two-splits (Alone leaf) h = absurd h
 two-splits (Parted numbers siblings) (inl e) = absurd cc
 two-splits (Parted numbers siblings) (inr past) = omega (arith, some-split numbers siblings past)
 
-pub returns-clause-never_finished : goal.returns-clause-never_finished
-returns-clause-never_finished c = λ a h. absurd (omega (arith, two-splits a.tree (h.kept (node (1 ∷ []) Cut) (inr (inl refl)) refl), h.answer.splits, h.answer.within))
-
-pub returns-clause-no_table : goal.returns-clause-no_table
-unfolding conflict
-returns-clause-no_table c = λ is. absurd (omega (arith, is.children [] 1 refl))
+pub returns : goal.returns
+unfolding row issue_of start_of point conflict
+returns c = record {
+  covers =
+      record {
+        once = λ order legal. refl;
+        nodes = ((tt, λ ending e. absurd (open_closed ending e)), (((refl, tt), λ ending e. absurd (cut_closed ending e)), tt));
+        best = source-legal load_problem.block;
+        spent = refl;
+        sum = refl;
+      };
+  never_finished = λ a h. absurd (omega (arith, two-splits a.tree (h.kept (node (1 ∷ []) Cut) (inr (inl refl)) refl), h.answer.splits, h.answer.within));
+  no_table = λ is. absurd (omega (arith, is.children [] 1 refl));
+}
