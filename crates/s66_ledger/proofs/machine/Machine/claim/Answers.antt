@@ -32,35 +32,26 @@ invariant_of-self-2 c =
     subst (λ ns. IsKeptMachine (record m { nodes = ns })) (sym c.in-Some.ensures.moved)
     (kept-claim m c.self.invariant c.args.self.now c.self.view_is c.args.w c.requires c.in-Some.node c.in-Some.ensures.within c.in-Some.ensures.was)
 
-pub returns-clause-ok : goal.returns-clause-ok
-returns-clause-ok c =
-    let m = stored_of c.self.inside in
-    subst (λ (t : TicketOf). IsMove c.args.self.now (model.Claim c.args.w) (model.Claimed (Some t.node)) (machine_of (record m { nodes = c.claim.new.self }))) (sym c.new.ensures)
-    (subst (λ ns. IsMove c.args.self.now (model.Claim c.args.w) (model.Claimed (Some c.in-Some.node)) (machine_of (record m { nodes = ns }))) (sym c.in-Some.ensures.moved)
-    (event-claim m c.self.invariant c.args.self.now c.self.view_is c.args.w c.requires c.in-Some.node c.in-Some.ensures.within c.in-Some.ensures.was))
-
-pub returns-clause-lines : goal.returns-clause-lines
-returns-clause-lines c =
-    let m = stored_of c.self.inside in
-    ap (made_lines m.problem) c.in-Some.ensures.moved ∙ (lines-state m.problem m.nodes c.in-Some.node state.Out ∙ ap (λ (l : MachineOf). l.lines) c.self.view_is)
-
-pub returns-clause-ticket : goal.returns-clause-ticket
-returns-clause-ticket c =
+pub returns : goal.returns
+returns c =
     let m = stored_of c.self.inside in
     let i = c.in-Some.node in
     let same = ap prefixes c.in-Some.ensures.moved ∙ prefixes-set m.nodes i (record (stored_at m.nodes i) { state = state.Out }) no_stored refl refl in
-    let here : get_or (prefixes m.nodes) i [] ≡ (model.node_at c.args.self.now.state.nodes i).prefix =
-    sym (ap (λ (n : model.Node). n.prefix) (at-nodes m.problem m.nodes i c.in-Some.ensures.within)) ∙ ap (λ (l : MachineOf). (model.node_at l.state.nodes i).prefix) c.self.view_is in
-    subst (λ (t : TicketOf). t.prefix ≡ (model.node_at c.args.self.now.state.nodes t.node).prefix) (sym c.new.ensures)
-    (c.prefix_of-prefix.ensures ∙ (ap (λ ats. get_or ats i []) same ∙ here))
-
-pub returns-clause-least : goal.returns-clause-least
-returns-clause-least c =
-    let m = stored_of c.self.inside in
-    let i = c.in-Some.node in
-    let same = ap prefixes c.in-Some.ensures.moved ∙ prefixes-set m.nodes i (record (stored_at m.nodes i) { state = state.Out }) no_stored refl refl in
-    let prefix : c.new.result.prefix ≡ get_or (prefixes m.nodes) i [] = ap (λ (t : TicketOf). t.prefix) c.new.ensures ∙ (c.prefix_of-prefix.ensures ∙ ap (λ ats. get_or ats i []) same) in
-    let few : length m.problem.block ≤ BLOCK_LIMIT = omega (arith, c.count.ensures.value, c.count.ensures.few) in
-    subst (λ at. (j : ℕ) → model.is_open (model.node_at c.args.self.now.state.nodes j) ≡ true → floor_value c.args.self.now.problem at ≤ floor_value c.args.self.now.problem (model.node_at c.args.self.now.state.nodes j).prefix) (sym prefix)
-    (subst (λ (l : MachineOf). (j : ℕ) → model.is_open (model.node_at l.state.nodes j) ≡ true → floor_value l.problem (get_or (prefixes m.nodes) i []) ≤ floor_value l.problem (model.node_at l.state.nodes j).prefix) c.self.view_is
-    (claimed-least m c.self.invariant few i c.in-Some.ensures.within c.in-Some.ensures.was c.in-Some.ensures.least))
+    record {
+      ok =
+          subst (λ (t : TicketOf). IsMove c.args.self.now (model.Claim c.args.w) (model.Claimed (Some t.node)) (machine_of (record m { nodes = c.claim.new.self }))) (sym c.new.ensures)
+          (subst (λ ns. IsMove c.args.self.now (model.Claim c.args.w) (model.Claimed (Some c.in-Some.node)) (machine_of (record m { nodes = ns }))) (sym c.in-Some.ensures.moved)
+          (event-claim m c.self.invariant c.args.self.now c.self.view_is c.args.w c.requires c.in-Some.node c.in-Some.ensures.within c.in-Some.ensures.was));
+      lines = ap (made_lines m.problem) c.in-Some.ensures.moved ∙ (lines-state m.problem m.nodes c.in-Some.node state.Out ∙ ap (λ (l : MachineOf). l.lines) c.self.view_is);
+      ticket =
+          let here : get_or (prefixes m.nodes) i [] ≡ (model.node_at c.args.self.now.state.nodes i).prefix =
+          sym (ap (λ (n : model.Node). n.prefix) (at-nodes m.problem m.nodes i c.in-Some.ensures.within)) ∙ ap (λ (l : MachineOf). (model.node_at l.state.nodes i).prefix) c.self.view_is in
+          subst (λ (t : TicketOf). t.prefix ≡ (model.node_at c.args.self.now.state.nodes t.node).prefix) (sym c.new.ensures)
+          (c.prefix_of-prefix.ensures ∙ (ap (λ ats. get_or ats i []) same ∙ here));
+      least =
+          let prefix : c.new.result.prefix ≡ get_or (prefixes m.nodes) i [] = ap (λ (t : TicketOf). t.prefix) c.new.ensures ∙ (c.prefix_of-prefix.ensures ∙ ap (λ ats. get_or ats i []) same) in
+          let few : length m.problem.block ≤ BLOCK_LIMIT = omega (arith, c.count.ensures.value, c.count.ensures.few) in
+          subst (λ at. (j : ℕ) → model.is_open (model.node_at c.args.self.now.state.nodes j) ≡ true → floor_value c.args.self.now.problem at ≤ floor_value c.args.self.now.problem (model.node_at c.args.self.now.state.nodes j).prefix) (sym prefix)
+          (subst (λ (l : MachineOf). (j : ℕ) → model.is_open (model.node_at l.state.nodes j) ≡ true → floor_value l.problem (get_or (prefixes m.nodes) i []) ≤ floor_value l.problem (model.node_at l.state.nodes j).prefix) c.self.view_is
+          (claimed-least m c.self.invariant few i c.in-Some.ensures.within c.in-Some.ensures.was c.in-Some.ensures.least));
+    }

@@ -10,12 +10,10 @@ overflow_cast-result c =
     let m = stored_of c.self.inside in
     omega (arith, c.count.ensures, c.self.invariant.room, c.self.invariant.few, kept-room m c.self.invariant 0)
 
-pub returns-clause-value : goal.returns-clause-value
-returns-clause-value c =
+pub returns : goal.returns
+returns c =
     let m = stored_of c.self.inside in
-    c.count.ensures ∙ (sym (length-nodes m.problem m.nodes) ∙ ap (λ (l : MachineOf). length l.state.nodes) c.self.view_is)
-
-pub returns-clause-lines : goal.returns-clause-lines
-returns-clause-lines c =
-    let m = stored_of c.self.inside in
-    c.count.ensures ∙ (sym (length-lines m.problem m.nodes) ∙ ap (λ (l : MachineOf). length l.lines) c.self.view_is)
+    record {
+      value = c.count.ensures ∙ (sym (length-nodes m.problem m.nodes) ∙ ap (λ (l : MachineOf). length l.state.nodes) c.self.view_is);
+      lines = c.count.ensures ∙ (sym (length-lines m.problem m.nodes) ∙ ap (λ (l : MachineOf). length l.lines) c.self.view_is);
+    }

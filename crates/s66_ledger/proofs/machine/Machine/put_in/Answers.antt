@@ -7,21 +7,15 @@ use Rattle.s66_ledger.proofs.Events.{worker-place, kept-room}
 use Rattle.s66_ledger.proofs.GraftSteps.{out-stored, over-stored, piece-floors, within, piece-room, graft-taken, kept-taken}
 use Rattle.s66_ledger.proofs.machine.Machine.put_in.Goals as goal
 
-pub attach-requires-clause-out : goal.attach-requires-clause-out
-attach-requires-clause-out c = out-stored (stored_of c.self.inside) c.args.self.now c.self.view_is c.args.node c.requires.out
-
-pub attach-requires-clause-over : goal.attach-requires-clause-over
-attach-requires-clause-over c =
-    over-stored (stored_of c.self.inside) c.args.self.now c.self.view_is c.args.node c.args.piece.now.prefix c.requires.out c.requires.prefix
-
-pub attach-requires-clause-floors : goal.attach-requires-clause-floors
-attach-requires-clause-floors c =
-    piece-floors (stored_of c.self.inside) c.self.invariant c.args.self.now c.self.view_is c.args.w c.requires.worker c.args.node c.args.piece.now c.requires.rule c.requires.problem c.requires.out
-
-pub attach-requires-clause-room : goal.attach-requires-clause-room
-attach-requires-clause-room c =
-    piece-room (stored_of c.self.inside) c.self.invariant c.args.self.now c.self.view_is c.args.w c.requires.worker c.args.node c.args.piece.now c.requires.rule c.requires.problem c.requires.out c.nodes-nodes.ensures.tree
-    (omega (arith, c.count.ensures.value, c.count.ensures.few)) c.requires.within
+pub attach-requires : goal.attach-requires
+attach-requires c = record {
+  out = out-stored (stored_of c.self.inside) c.args.self.now c.self.view_is c.args.node c.requires.out;
+  over = over-stored (stored_of c.self.inside) c.args.self.now c.self.view_is c.args.node c.args.piece.now.prefix c.requires.out c.requires.prefix;
+  floors = piece-floors (stored_of c.self.inside) c.self.invariant c.args.self.now c.self.view_is c.args.w c.requires.worker c.args.node c.args.piece.now c.requires.rule c.requires.problem c.requires.out;
+  room =
+      piece-room (stored_of c.self.inside) c.self.invariant c.args.self.now c.self.view_is c.args.w c.requires.worker c.args.node c.args.piece.now c.requires.rule c.requires.problem c.requires.out c.nodes-nodes.ensures.tree
+      (omega (arith, c.count.ensures.value, c.count.ensures.few)) c.requires.within;
+}
 
 pub overflow_add-self : goal.overflow_add-self
 overflow_add-self c =
