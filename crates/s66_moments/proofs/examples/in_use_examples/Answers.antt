@@ -32,15 +32,7 @@ unit_finds low _ h = absurd (true≢false (sym h))
 pub returns-clause-read_after_the_unit : goal.returns-clause-read_after_the_unit
 unfolding row conflict issue_of start_of point
 returns-clause-read_after_the_unit c = λ low.
-    record {
-      begins = search rules;
-      other_begins = search rules;
-      same_set = search rules;
-      slot = lit≤ tt;
-      phase = refl;
-      finds = unit_finds low;
-      total = inr (lit≤ tt);
-    }
+    record { begins = search rules; other_begins = search rules; same_set = search rules; slot = lit≤ tt; phase = refl; finds = unit_finds low; total = inr (lit≤ tt) }
 
 pub returns-clause-not_clamped : goal.returns-clause-not_clamped
 unfolding row conflict issue_of start_of point
@@ -69,15 +61,7 @@ behind_finds low _ h = absurd (true≢false (sym h))
 pub returns-clause-read_after_two_parcels : goal.returns-clause-read_after_two_parcels
 unfolding row conflict issue_of start_of point
 returns-clause-read_after_two_parcels c = λ low.
-    record {
-      begins = search rules;
-      other_begins = search rules;
-      same_set = search rules;
-      slot = lit≤ tt;
-      phase = refl;
-      finds = behind_finds low;
-      total = inr (lit≤ tt);
-    }
+    record { begins = search rules; other_begins = search rules; same_set = search rules; slot = lit≤ tt; phase = refl; finds = behind_finds low; total = inr (lit≤ tt) }
 
 product_finds : (low n : ℕ) → is_remaining product_and_booleans (2 ∷ 1 ∷ []) n ≡ true → FindsInUse (standard_problem product_and_booleans) low [] (1 ∷ 2 ∷ []) (2 ∷ 1 ∷ []) n
 unfolding row conflict issue_of start_of point
@@ -88,15 +72,7 @@ product_finds low _ h = absurd (true≢false (sym h))
 pub returns-clause-by_its_total : goal.returns-clause-by_its_total
 unfolding row conflict issue_of start_of point
 returns-clause-by_its_total c =
-    record {
-      begins = search rules;
-      other_begins = search rules;
-      same_set = search rules;
-      slot = lit≤ tt;
-      phase = refl;
-      finds = product_finds 13;
-      total = inl (lit≤ tt);
-    }
+    record { begins = search rules; other_begins = search rules; same_set = search rules; slot = lit≤ tt; phase = refl; finds = product_finds 13; total = inl (lit≤ tt) }
 
 pub returns-clause-not_below_its_total : goal.returns-clause-not_below_its_total
 unfolding row conflict issue_of start_of point

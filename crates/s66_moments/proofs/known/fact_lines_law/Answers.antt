@@ -19,18 +19,17 @@ sound : (b : Problem) (bound : ℕ) (lines : List FactLine) → are_taken b boun
 sound b bound lines taken = (after-sound b bound lines taken).1
 
 pub returns : goal.returns
-returns c =
-    record {
-      founded = λ b bound lines taken. (after-sound b bound lines taken).0;
-      known = λ b bound lines taken. (sound b bound lines taken).is_known;
-      transitive = λ b bound lines taken. (sound b bound lines taken).transitive;
-      no_ring = λ b bound lines taken. (sound b bound lines taken).no_ring;
-      steps = λ b bound lines taken. arcs-steps b (facts b lines) (known b lines) (sound b bound lines taken);
-      rising = λ b bound lines taken. arcs-rise b (facts b lines) (known b lines) (sound b bound lines taken);
-      own = λ b bound lines taken. arcs-own b (facts b lines) (known b lines) (sound b bound lines taken);
-      tails = λ b bound lines e taken is. span-tail b (facts b lines) (known b lines) (sound b bound lines taken) e is;
-      next = λ b bound lines prefix n taken remains le. next-too_late b (facts b lines) (known b lines) (sound b bound lines taken) bound prefix n remains le;
-      turned = λ b bound lines prefix m n taken turned. turned-too_late b (facts b lines) (known b lines) (sound b bound lines taken) bound prefix m n turned;
-      loaded = λ b bound lines prefix after numbers taken loaded. loaded-closed b (facts b lines) (known b lines) (sound b bound lines taken) prefix bound after numbers loaded;
-      no_sooner = λ b bound lines prefix n taken left. turn-comes b (facts b lines) (known b lines) (sound b bound lines taken).is_known bound prefix n left;
-    }
+returns c = record {
+  founded = λ b bound lines taken. (after-sound b bound lines taken).0;
+  known = λ b bound lines taken. (sound b bound lines taken).is_known;
+  transitive = λ b bound lines taken. (sound b bound lines taken).transitive;
+  no_ring = λ b bound lines taken. (sound b bound lines taken).no_ring;
+  steps = λ b bound lines taken. arcs-steps b (facts b lines) (known b lines) (sound b bound lines taken);
+  rising = λ b bound lines taken. arcs-rise b (facts b lines) (known b lines) (sound b bound lines taken);
+  own = λ b bound lines taken. arcs-own b (facts b lines) (known b lines) (sound b bound lines taken);
+  tails = λ b bound lines e taken is. span-tail b (facts b lines) (known b lines) (sound b bound lines taken) e is;
+  next = λ b bound lines prefix n taken remains le. next-too_late b (facts b lines) (known b lines) (sound b bound lines taken) bound prefix n remains le;
+  turned = λ b bound lines prefix m n taken turned. turned-too_late b (facts b lines) (known b lines) (sound b bound lines taken) bound prefix m n turned;
+  loaded = λ b bound lines prefix after numbers taken loaded. loaded-closed b (facts b lines) (known b lines) (sound b bound lines taken) prefix bound after numbers loaded;
+  no_sooner = λ b bound lines prefix n taken left. turn-comes b (facts b lines) (known b lines) (sound b bound lines taken).is_known bound prefix n left;
+}

@@ -3,8 +3,4 @@ use Rattle.s66_moments.proofs.lines.in_use_law.Goals as goal
 
 pub returns : goal.returns
 returns c =
-    record {
-      no_worse = no_worse-below;
-      next = next-comes;
-      clamped = clamped-in_use;
-    }
+    record { no_worse = no_worse-below; next = next-comes; clamped = clamped-in_use }

@@ -23,18 +23,17 @@ sound : (b : Problem) (bound : ℕ) (steps : List FactStep) → are_steps_taken 
 sound b bound steps taken none = closed-sound b bound (facts b steps) (after b steps) (stands b bound steps taken) none
 
 pub returns : goal.returns
-returns c =
-    record {
-      founded = λ b bound steps taken. (after-stands b bound steps taken).0;
-      transitive = λ b bound steps taken. (stands b bound steps taken).sound.transitive;
-      no_ring = λ b bound steps taken. (stands b bound steps taken).sound.no_ring;
-      rising = λ b bound steps taken. (let all = stands b bound steps taken in arcs-rise b all.facts (after b steps).known all.sound);
-      own = λ b bound steps taken. (let all = stands b bound steps taken in arcs-own b all.facts (after b steps).known all.sound);
-      tails = λ b bound steps e taken is. (let all = stands b bound steps taken in span-tail b all.facts (after b steps).known all.sound e is);
-      known = λ b bound steps taken none. (sound b bound steps taken none).is_known;
-      steps = λ b bound steps taken none. arcs-steps b (facts b steps) (after b steps).known (sound b bound steps taken none);
-      next = λ b bound steps prefix n taken none remains le. next-too_late b (facts b steps) (after b steps).known (sound b bound steps taken none) bound prefix n remains le;
-      turned = λ b bound steps prefix m n taken none turned. turned-too_late b (facts b steps) (after b steps).known (sound b bound steps taken none) bound prefix m n turned;
-      loaded = λ b bound steps prefix after2 numbers taken none loaded. loaded-closed b (facts b steps) (after b steps).known (sound b bound steps taken none) prefix bound after2 numbers loaded;
-      no_sooner = λ b bound steps prefix n taken none left. turn-comes b (facts b steps) (after b steps).known (sound b bound steps taken none).is_known bound prefix n left;
-    }
+returns c = record {
+  founded = λ b bound steps taken. (after-stands b bound steps taken).0;
+  transitive = λ b bound steps taken. (stands b bound steps taken).sound.transitive;
+  no_ring = λ b bound steps taken. (stands b bound steps taken).sound.no_ring;
+  rising = λ b bound steps taken. (let all = stands b bound steps taken in arcs-rise b all.facts (after b steps).known all.sound);
+  own = λ b bound steps taken. (let all = stands b bound steps taken in arcs-own b all.facts (after b steps).known all.sound);
+  tails = λ b bound steps e taken is. (let all = stands b bound steps taken in span-tail b all.facts (after b steps).known all.sound e is);
+  known = λ b bound steps taken none. (sound b bound steps taken none).is_known;
+  steps = λ b bound steps taken none. arcs-steps b (facts b steps) (after b steps).known (sound b bound steps taken none);
+  next = λ b bound steps prefix n taken none remains le. next-too_late b (facts b steps) (after b steps).known (sound b bound steps taken none) bound prefix n remains le;
+  turned = λ b bound steps prefix m n taken none turned. turned-too_late b (facts b steps) (after b steps).known (sound b bound steps taken none) bound prefix m n turned;
+  loaded = λ b bound steps prefix after2 numbers taken none loaded. loaded-closed b (facts b steps) (after b steps).known (sound b bound steps taken none) prefix bound after2 numbers loaded;
+  no_sooner = λ b bound steps prefix n taken none left. turn-comes b (facts b steps) (after b steps).known (sound b bound steps taken none).is_known bound prefix n left;
+}
