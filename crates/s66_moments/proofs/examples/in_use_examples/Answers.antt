@@ -29,23 +29,6 @@ unit_finds low (suc (suc (suc zero))) h = by-next waits_for_the_unit low (2 ∷ 
 unit_finds low (suc (suc (suc (suc n)))) h = absurd (omega (arith, (remaining-parts waits_for_the_unit (1 ∷ 2 ∷ []) (suc (suc (suc (suc n)))) h).1))
 unit_finds low _ h = absurd (true≢false (sym h))
 
-pub returns-clause-read_after_the_unit : goal.returns-clause-read_after_the_unit
-unfolding row conflict issue_of start_of point
-returns-clause-read_after_the_unit c = λ low.
-    record { begins = search rules; other_begins = search rules; same_set = search rules; slot = lit≤ tt; phase = refl; finds = unit_finds low; total = inr (lit≤ tt) }
-
-pub returns-clause-not_clamped : goal.returns-clause-not_clamped
-unfolding row conflict issue_of start_of point
-returns-clause-not_clamped c = λ h. absurd (omega (arith, h.no_later.writers (x_reg 1)))
-
--- 1 2 3 takes 9, and the third starts at 5 there, when X1 is to come at 7 after 2 1
-pub returns-clause-read_at_once : goal.returns-clause-read_at_once
-unfolding row conflict issue_of start_of point
-returns-clause-read_at_once c = λ low less h.
-    let legal : IsLegal waits_for_x1 (1 ∷ 2 ∷ 3 ∷ []) = order-legal waits_for_x1 (1 ∷ 2 ∷ 3 ∷ []) (search rules) in
-    let (issue, start, comes, finds) = h.finds 3 refl in
-    absurd (omega (arith, finds.operands (x_reg 1) (inl refl), comes.starts (1 ∷ 2 ∷ 3 ∷ []) legal (omega (arith, less)) ((3 ∷ [], refl), tt)))
-
 -- the fourth comes after the parcels of the third, on which it depends
 behind_finds : (low n : ℕ) → is_remaining waits_for_two_parcels (1 ∷ 2 ∷ []) n ≡ true → FindsInUse (standard_problem waits_for_two_parcels) low [] (2 ∷ 1 ∷ []) (1 ∷ 2 ∷ []) n
 unfolding row conflict issue_of start_of point
@@ -58,22 +41,33 @@ behind_finds low (suc (suc (suc (suc zero)))) h =
 behind_finds low (suc (suc (suc (suc (suc n))))) h = absurd (omega (arith, (remaining-parts waits_for_two_parcels (1 ∷ 2 ∷ []) (suc (suc (suc (suc (suc n))))) h).1))
 behind_finds low _ h = absurd (true≢false (sym h))
 
-pub returns-clause-read_after_two_parcels : goal.returns-clause-read_after_two_parcels
-unfolding row conflict issue_of start_of point
-returns-clause-read_after_two_parcels c = λ low.
-    record { begins = search rules; other_begins = search rules; same_set = search rules; slot = lit≤ tt; phase = refl; finds = behind_finds low; total = inr (lit≤ tt) }
-
 product_finds : (low n : ℕ) → is_remaining product_and_booleans (2 ∷ 1 ∷ []) n ≡ true → FindsInUse (standard_problem product_and_booleans) low [] (1 ∷ 2 ∷ []) (2 ∷ 1 ∷ []) n
 unfolding row conflict issue_of start_of point
 product_finds low (suc (suc (suc zero))) h = by-next product_and_booleans low (1 ∷ 2 ∷ []) (2 ∷ 1 ∷ []) 3 h (search rules)
 product_finds low (suc (suc (suc (suc n)))) h = absurd (omega (arith, (remaining-parts product_and_booleans (2 ∷ 1 ∷ []) (suc (suc (suc (suc n)))) h).1))
 product_finds low _ h = absurd (true≢false (sym h))
 
-pub returns-clause-by_its_total : goal.returns-clause-by_its_total
+pub returns : goal.returns
 unfolding row conflict issue_of start_of point
-returns-clause-by_its_total c =
-    record { begins = search rules; other_begins = search rules; same_set = search rules; slot = lit≤ tt; phase = refl; finds = product_finds 13; total = inl (lit≤ tt) }
-
-pub returns-clause-not_below_its_total : goal.returns-clause-not_below_its_total
-unfolding row conflict issue_of start_of point
-returns-clause-not_below_its_total c = λ h. elim h.total [ inl less ↦ absurd (omega arith) | inr no_later ↦ absurd (omega arith) ]
+returns c = record {
+  read_after_the_unit = λ low.
+      record { begins = search rules; other_begins = search rules; same_set = search rules; slot = lit≤ tt; phase = refl; finds = unit_finds low; total = inr (lit≤ tt) };
+  not_clamped = λ h. absurd (omega (arith, h.no_later.writers (x_reg 1)));
+  it_takes_12 = refl;
+  the_other_takes_12 = refl;
+  read_after_two_parcels = λ low.
+      record { begins = search rules; other_begins = search rules; same_set = search rules; slot = lit≤ tt; phase = refl; finds = behind_finds low; total = inr (lit≤ tt) };
+  after_two_parcels_it_takes_12 = refl;
+  after_two_parcels_the_other_takes_12 = refl;
+  -- 1 2 3 takes 9, and the third starts at 5 there, when X1 is to come at 7 after 2 1
+  read_at_once = λ low less h.
+      let legal : IsLegal waits_for_x1 (1 ∷ 2 ∷ 3 ∷ []) = order-legal waits_for_x1 (1 ∷ 2 ∷ 3 ∷ []) (search rules) in
+      let (issue, start, comes, finds) = h.finds 3 refl in
+      absurd (omega (arith, finds.operands (x_reg 1) (inl refl), comes.starts (1 ∷ 2 ∷ 3 ∷ []) legal (omega (arith, less)) ((3 ∷ [], refl), tt)));
+  it_takes_11 = refl;
+  the_other_takes_9 = refl;
+  by_its_total = record { begins = search rules; other_begins = search rules; same_set = search rules; slot = lit≤ tt; phase = refl; finds = product_finds 13; total = inl (lit≤ tt) };
+  not_below_its_total = λ h. elim h.total [ inl less ↦ absurd (omega arith) | inr no_later ↦ absurd (omega arith) ];
+  its_total = refl;
+  total_of_the_other = refl;
+}
