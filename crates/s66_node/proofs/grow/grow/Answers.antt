@@ -1,4 +1,4 @@
-use Rattle.std.proofs.Common.{ℕ, ◌+◌, ◌-◌, ◌*◌, ◌<◌, ◌≡◌, ◌⊎◌, ◌++◌, ◌∷◌, [], List, Option, IfSome, IfNone, IsTrue, nat_lt, true, arith, sym, ◌∙◌, ap, subst, refl, length, length-append}
+use Rattle.std.proofs.Common.{ℕ, ◌+◌, ◌-◌, ◌*◌, ◌<◌, ◌≡◌, ◌⊎◌, ◌++◌, ◌∷◌, [], List, Option, IfSome, IfNone, IsTrue, nat_lt, true, arith, sym, ◌∙◌, ap, subst, refl, rules, length, length-append}
 use Rattle.std.proofs.lemmas.Bool.{lt-ltb, ltb-true, true≢false}
 use Rattle.s66_isa.specs.declared.limits.TheConstants.{BLOCK_LIMIT}
 use Rattle.s66_isa.specs.Lists.{Among}
@@ -80,33 +80,27 @@ unsplit_child-requires-clause-kept g c = c.loop-frame.invariant.kept
 pub unsplit_child-requires-clause-suits : goal.unsplit_child-requires-clause-suits
 unsplit_child-requires-clause-suits g c = subst (λ (p : Problem). g.N.Naming.suits c.loop-frame.names p) (sym (ap (λ (w : Walked). w.problem) c.push-in-Some-pop_first-2.ensures ∙ c.loop-frame.invariant.problem)) c.loop-frame.invariant.suits
 
-pub returns-in_err-child-clause-suits : goal.returns-in_err-child-clause-suits
-returns-in_err-child-clause-suits g c = subst (λ (p : Problem). g.N.Naming.suits c.unsplit_child.new.names p) (ap (λ (w : Walked). w.problem) c.push-in-Some-pop_first-2.ensures ∙ c.loop-frame.invariant.problem) c.unsplit_child.ensures.suits
+pub returns-in_err-child : goal.returns-in_err-child
+returns-in_err-child g c = record {
+  suits = subst (λ (p : Problem). g.N.Naming.suits c.unsplit_child.new.names p) (ap (λ (w : Walked). w.problem) c.push-in-Some-pop_first-2.ensures ∙ c.loop-frame.invariant.problem) c.unsplit_child.ensures.suits;
+  same = ap (λ (w : Walked). w.problem) c.push-in-Some-pop_first-2.ensures ∙ c.loop-frame.invariant.problem;
+  falls = omega (arith, c.unsplit_child.ensures.kept, c.unsplit_child.ensures.falls, c.loop-frame.invariant.falls);
+  lowest =
+      let was = c.loop-frame.invariant.lowest in
+      (c.unsplit_child.ensures.lowest.0 ∙ was.0, omega (arith, c.unsplit_child.ensures.lowest.1 (omega (arith, was.0, was.1)), was.0, c.unsplit_child.ensures.kept));
+  grown = search rules;
+}
 
-pub returns-in_err-child-clause-same : goal.returns-in_err-child-clause-same
-returns-in_err-child-clause-same g c = ap (λ (w : Walked). w.problem) c.push-in-Some-pop_first-2.ensures ∙ c.loop-frame.invariant.problem
-
-pub returns-in_err-child-clause-falls : goal.returns-in_err-child-clause-falls
-returns-in_err-child-clause-falls g c = omega (arith, c.unsplit_child.ensures.kept, c.unsplit_child.ensures.falls, c.loop-frame.invariant.falls)
-
-pub returns-in_err-child-clause-lowest : goal.returns-in_err-child-clause-lowest
-returns-in_err-child-clause-lowest g c =
-    let was = c.loop-frame.invariant.lowest in
-    (c.unsplit_child.ensures.lowest.0 ∙ was.0, omega (arith, c.unsplit_child.ensures.lowest.1 (omega (arith, was.0, was.1)), was.0, c.unsplit_child.ensures.kept))
-
-pub returns-in_err-push_unsplit-in-Some-child-clause-suits : goal.returns-in_err-push_unsplit-in-Some-child-clause-suits
-returns-in_err-push_unsplit-in-Some-child-clause-suits g c = subst (λ (p : Problem). g.N.Naming.suits c.unsplit_child.new.names p) (ap (λ (w : Walked). w.problem) c.push-in-Some-pop_first-2.ensures ∙ c.loop-frame.invariant.problem) c.unsplit_child.ensures.suits
-
-pub returns-in_err-push_unsplit-in-Some-child-clause-same : goal.returns-in_err-push_unsplit-in-Some-child-clause-same
-returns-in_err-push_unsplit-in-Some-child-clause-same g c = ap (λ (w : Walked). w.problem) c.push-in-Some-pop_first-2.ensures ∙ c.loop-frame.invariant.problem
-
-pub returns-in_err-push_unsplit-in-Some-child-clause-falls : goal.returns-in_err-push_unsplit-in-Some-child-clause-falls
-returns-in_err-push_unsplit-in-Some-child-clause-falls g c = omega (arith, c.unsplit_child.ensures.kept, c.unsplit_child.ensures.falls, c.loop-frame.invariant.falls)
-
-pub returns-in_err-push_unsplit-in-Some-child-clause-lowest : goal.returns-in_err-push_unsplit-in-Some-child-clause-lowest
-returns-in_err-push_unsplit-in-Some-child-clause-lowest g c =
-    let was = c.loop-frame.invariant.lowest in
-    (c.unsplit_child.ensures.lowest.0 ∙ was.0, omega (arith, c.unsplit_child.ensures.lowest.1 (omega (arith, was.0, was.1)), was.0, c.unsplit_child.ensures.kept))
+pub returns-in_err-push_unsplit-in-Some-child : goal.returns-in_err-push_unsplit-in-Some-child
+returns-in_err-push_unsplit-in-Some-child g c = record {
+  suits = subst (λ (p : Problem). g.N.Naming.suits c.unsplit_child.new.names p) (ap (λ (w : Walked). w.problem) c.push-in-Some-pop_first-2.ensures ∙ c.loop-frame.invariant.problem) c.unsplit_child.ensures.suits;
+  same = ap (λ (w : Walked). w.problem) c.push-in-Some-pop_first-2.ensures ∙ c.loop-frame.invariant.problem;
+  falls = omega (arith, c.unsplit_child.ensures.kept, c.unsplit_child.ensures.falls, c.loop-frame.invariant.falls);
+  lowest =
+      let was = c.loop-frame.invariant.lowest in
+      (c.unsplit_child.ensures.lowest.0 ∙ was.0, omega (arith, c.unsplit_child.ensures.lowest.1 (omega (arith, was.0, was.1)), was.0, c.unsplit_child.ensures.kept));
+  grown = search rules;
+}
 
 pub loop-frame-smaller-in-Some-child : goal.loop-frame-smaller-in-Some-child
 loop-frame-smaller-in-Some-child g c =
@@ -151,19 +145,16 @@ loop-frame-preserved-in-Some-child g c =
           u put found same (λ is lt. left is (lt-ltb lf.grown.splits c.args.allowance lt)) c.push-in-Some-pop_first.ensures.items up;
     }
 
-pub returns-in_err-below-in-None-clause-suits : goal.returns-in_err-below-in-None-clause-suits
-returns-in_err-below-in-None-clause-suits g c = subst (λ (p : Problem). g.N.Naming.suits c.unsplit_child.new.names p) (ap (λ (w : Walked). w.problem) c.push-in-Some-pop_first-2.ensures ∙ c.loop-frame.invariant.problem) c.unsplit_child.ensures.suits
-
-pub returns-in_err-below-in-None-clause-same : goal.returns-in_err-below-in-None-clause-same
-returns-in_err-below-in-None-clause-same g c = ap (λ (w : Walked). w.problem) c.push_split-in-None.ensures.same ∙ ap (λ (w : Walked). w.problem) c.push-in-Some-pop_first-2.ensures ∙ c.loop-frame.invariant.problem
-
-pub returns-in_err-below-in-None-clause-falls : goal.returns-in_err-below-in-None-clause-falls
-returns-in_err-below-in-None-clause-falls g c = omega (arith, c.unsplit_child.ensures.kept, c.unsplit_child.ensures.falls, c.loop-frame.invariant.falls)
-
-pub returns-in_err-below-in-None-clause-lowest : goal.returns-in_err-below-in-None-clause-lowest
-returns-in_err-below-in-None-clause-lowest g c =
-    let was = c.loop-frame.invariant.lowest in
-    (c.unsplit_child.ensures.lowest.0 ∙ was.0, omega (arith, c.unsplit_child.ensures.lowest.1 (omega (arith, was.0, was.1)), was.0, c.unsplit_child.ensures.kept))
+pub returns-in_err-below-in-None : goal.returns-in_err-below-in-None
+returns-in_err-below-in-None g c = record {
+  suits = subst (λ (p : Problem). g.N.Naming.suits c.unsplit_child.new.names p) (ap (λ (w : Walked). w.problem) c.push-in-Some-pop_first-2.ensures ∙ c.loop-frame.invariant.problem) c.unsplit_child.ensures.suits;
+  same = ap (λ (w : Walked). w.problem) c.push_split-in-None.ensures.same ∙ ap (λ (w : Walked). w.problem) c.push-in-Some-pop_first-2.ensures ∙ c.loop-frame.invariant.problem;
+  falls = omega (arith, c.unsplit_child.ensures.kept, c.unsplit_child.ensures.falls, c.loop-frame.invariant.falls);
+  lowest =
+      let was = c.loop-frame.invariant.lowest in
+      (c.unsplit_child.ensures.lowest.0 ∙ was.0, omega (arith, c.unsplit_child.ensures.lowest.1 (omega (arith, was.0, was.1)), was.0, c.unsplit_child.ensures.kept));
+  grown = search rules;
+}
 
 pub push-requires-in-None : goal.push-requires-in-None
 push-requires-in-None g c =
@@ -260,20 +251,14 @@ loop-frame-preserved g c =
           c.in_default-pop_first.ensures.none (is-empty c.pop.new.self.items (sym c.is_empty.ensures ∙ c.if-not-is_empty.false));
     }
 
-pub returns-clause-suits : goal.returns-clause-suits
-returns-clause-suits g c = c.loop-frame.invariant.suits
-
-pub returns-clause-same : goal.returns-clause-same
-returns-clause-same g c = c.loop-frame.invariant.problem
-
-pub returns-clause-falls : goal.returns-clause-falls
-returns-clause-falls g c = omega (arith, c.loop-frame.invariant.kept, c.loop-frame.invariant.falls)
-
-pub returns-clause-lowest : goal.returns-clause-lowest
-returns-clause-lowest g c = (c.loop-frame.invariant.lowest.0, omega (arith, c.loop-frame.invariant.lowest.1, c.loop-frame.invariant.kept))
-
-pub returns-clause-grown : goal.returns-clause-grown
-returns-clause-grown g c =
-    let lf = c.loop-frame in
-    let none : lf.frames.items ≡ [] = none-empty lf.frames.items (λ lt. true≢false (sym (c.in_default-pop.ensures.variant.1 lt))) in
-    is-grown c.args.rule c.args.walk.now.problem (g.L.Least.kept c.args.incumbent.now) c.args.allowance c.args.walk.now.numbers lf.walk.numbers lf.frames.items lf.grown lf.best (g.L.Least.kept lf.incumbent) (g.N.Naming.names lf.names) lf.invariant.grows (omega (arith, lf.invariant.kept)) none
+pub returns : goal.returns
+returns g c = record {
+  suits = c.loop-frame.invariant.suits;
+  same = c.loop-frame.invariant.problem;
+  falls = omega (arith, c.loop-frame.invariant.kept, c.loop-frame.invariant.falls);
+  lowest = (c.loop-frame.invariant.lowest.0, omega (arith, c.loop-frame.invariant.lowest.1, c.loop-frame.invariant.kept));
+  grown =
+      let lf = c.loop-frame in
+      let none : lf.frames.items ≡ [] = none-empty lf.frames.items (λ lt. true≢false (sym (c.in_default-pop.ensures.variant.1 lt))) in
+      is-grown c.args.rule c.args.walk.now.problem (g.L.Least.kept c.args.incumbent.now) c.args.allowance c.args.walk.now.numbers lf.walk.numbers lf.frames.items lf.grown lf.best (g.L.Least.kept lf.incumbent) (g.N.Naming.names lf.names) lf.invariant.grows (omega (arith, lf.invariant.kept)) none;
+}

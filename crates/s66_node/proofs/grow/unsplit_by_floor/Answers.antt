@@ -19,12 +19,5 @@ returns-then-is_complete-clause-found c =
 pub returns-else-may_split-clause-found : goal.returns-else-may_split-clause-found
 returns-else-may_split-clause-found c =
     let part : IsIncomplete c.args.walk.now.problem.block c.args.walk.now.numbers =
-    elim c.is_complete.ensures.incomplete [
-      | inl whole ↦ absurd (true≢false (sym whole ∙ c.if-is_complete.false))
-      | inr part ↦ part
-    ] in
-    record {
-      value = c.requires;
-      left = (part, omega (arith, c.requires, c.if-value-best.false));
-      knows = λ by name is. absurd cc;
-    }
+    elim c.is_complete.ensures.incomplete [ inl whole ↦ absurd (true≢false (sym whole ∙ c.if-is_complete.false)) | inr part ↦ part ] in
+    record { value = c.requires; left = (part, omega (arith, c.requires, c.if-value-best.false)); knows = λ by name is. absurd cc }

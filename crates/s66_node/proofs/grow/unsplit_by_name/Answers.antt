@@ -21,5 +21,4 @@ returns-in-Some-clause-found g c =
     }
 
 pub returns-else-may_split-clause-found : goal.returns-else-may_split-clause-found
-returns-else-may_split-clause-found g c =
-    λ best due. record { value = c.requires.value; left = due; knows = λ by name is. absurd cc }
+returns-else-may_split-clause-found g c = λ best due. record { value = c.requires.value; left = due; knows = λ by name is. absurd cc }

@@ -7,12 +7,7 @@ use Rattle.s66_node.proofs.Schedules.{push-goes, none-ready}
 use Rattle.s66_node.proofs.schedule.schedule_rest.Goals as goal
 
 pub loop-n-init : goal.loop-n-init
-loop-n-init c = record {
-  same = refl;
-  begins = c.numbers.ensures.begins;
-  more = omega arith;
-  continues = take-length c.args.walk.now.numbers;
-}
+loop-n-init c = record { same = refl; begins = c.numbers.ensures.begins; more = omega arith; continues = take-length c.args.walk.now.numbers }
 
 pub loop-n-smaller : goal.loop-n-smaller
 loop-n-smaller c =

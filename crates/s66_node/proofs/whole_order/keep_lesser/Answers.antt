@@ -20,6 +20,5 @@ returns c =
           (let e : w.in-Some.found ≡ found = some-same w.in-Some.found found (sym w.in-Some.is ∙ is) in
           omega (arith, w.if-found-total.false, ap (λ (o : WholeOrder). o.total) e))
       | in_default w ↦ absurd cc
-    ]
-    in
+    ] in
     least-new b orders c.args.least.now (record { numbers = c.copy_of.result; total = c.args.total }) c.args.numbers.now legal c.copy_of.ensures total lower h

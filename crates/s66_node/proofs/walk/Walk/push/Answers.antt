@@ -3,8 +3,7 @@ use Rattle.s66_node.proofs.Standing.{push-fits, push-ranked, ranks-push, walked-
 use Rattle.s66_node.proofs.walk.Walk.push.Goals as goal
 
 pub push-requires-2 : goal.push-requires-2
-push-requires-2 c =
-    (omega arith, push-fits c.self.inside.clock _ _ _ _ _ c.args.self.now c.self.invariant c.self.view_is c.args.n c.requires)
+push-requires-2 c = (omega arith, push-fits c.self.inside.clock _ _ _ _ _ c.args.self.now c.self.invariant c.self.view_is c.args.n c.requires)
 
 pub rank-rank-requires : goal.rank-rank-requires
 rank-rank-requires c = push-ranked c.self.inside.clock _ _ _ _ _ c.args.self.now c.self.invariant c.self.view_is c.args.n c.requires

@@ -18,8 +18,7 @@ returns-then-not-is_ready-clause-begins c =
     (λ is. absurd (true≢false (sym is)), λ h. absurd (true≢false (sym (ready-at block ns i h (omega arith)) ∙ subst (λ (x : Walked). is_ready x.problem.block x.numbers n ≡ false) c.loop-position.invariant.front off)))
 
 pub push-requires : goal.push-requires
-push-requires c =
-    sym c.is_ready.ensures ∙ c.if-not-is_ready.false
+push-requires c = sym c.is_ready.ensures ∙ c.if-not-is_ready.false
 
 pub loop-position-preserved : goal.loop-position-preserved
 loop-position-preserved c =
