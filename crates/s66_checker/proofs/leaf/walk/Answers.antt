@@ -70,18 +70,14 @@ overflow_add-result c =
     in
     search rules
 
-pub returns-clause-links : goal.returns-clause-links
-returns-clause-links c =
+pub returns : goal.returns
+returns c =
     let b = c.args.prefix.now.problem in
-    let ns = c.args.prefix.now.numbers in
-    let inv = c.loop-m.invariant in
-    sym inv.remains ∙ ap (is_walk b ns c.loop-m.last) (sym (drop_all c.loop-m.m-index c.args.later.now c.loop-m-test.false)) ∙ inv.links
-
-pub returns-clause-value : goal.returns-clause-value
-returns-clause-value c =
-    let b = c.args.prefix.now.problem in
-    omega (arith, c.loop-m.invariant.value, ap (walk b c.loop-m.last) (drop_all c.loop-m.m-index c.args.later.now c.loop-m-test.false), c.tail.ensures, ap tail c.row.ensures)
-
-pub returns-clause-at_most : goal.returns-clause-at_most
-returns-clause-at_most c =
-    omega (arith, small c.args.prefix.now.problem c.args.prefix.now.numbers c.loop-m.last c.loop-m.time c.tail.result c.row.result.now c.loop-m.invariant.remains c.requires.few c.loop-m.invariant.small c.tail.ensures c.row.ensures)
+    record {
+      links =
+          let ns = c.args.prefix.now.numbers in
+          let inv = c.loop-m.invariant in
+          sym inv.remains ∙ ap (is_walk b ns c.loop-m.last) (sym (drop_all c.loop-m.m-index c.args.later.now c.loop-m-test.false)) ∙ inv.links;
+      value = omega (arith, c.loop-m.invariant.value, ap (walk b c.loop-m.last) (drop_all c.loop-m.m-index c.args.later.now c.loop-m-test.false), c.tail.ensures, ap tail c.row.ensures);
+      at_most = omega (arith, small c.args.prefix.now.problem c.args.prefix.now.numbers c.loop-m.last c.loop-m.time c.tail.result c.row.result.now c.loop-m.invariant.remains c.requires.few c.loop-m.invariant.small c.tail.ensures c.row.ensures);
+    }

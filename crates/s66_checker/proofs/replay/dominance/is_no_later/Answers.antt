@@ -41,8 +41,7 @@ returns c =
     let phase : next_parcel (reverse xs) % 4 ≡ next_parcel (reverse ys) % 4 =
     ap (λ (ps : List Point). next_parcel (reverse ps) % 4) (sym c.points-3.ensures) ∙ ap (λ k. k % 4) (sym c.next_parcel.ensures.value)
     ∙ c.if-next_parcel.false
-    ∙ ap (λ k. k % 4) c.next_parcel-2.ensures.value ∙ ap (λ (ps : List Point). next_parcel (reverse ps) % 4) c.points-4.ensures
-    in
+    ∙ ap (λ k. k % 4) c.next_parcel-2.ensures.value ∙ ap (λ (ps : List Point). next_parcel (reverse ps) % 4) c.points-4.ensures in
     stores-left c.args.profile.now (both c.args.readers others) (reverse xs) (reverse ys) slot phase c.are_no_later.result c.are_no_later-2.result c.are_all_units_no_later.result
     (writers-stated xs ys w v of_xs of_ys others c.are_no_later.result c.are_no_later.ensures) c.if-not-are_no_later.false
     (readers-stated xs ys w v of_xs of_ys c.args.readers c.are_no_later-2.result c.are_no_later-2.ensures) c.if-not-are_no_later-2.false

@@ -11,8 +11,7 @@ use Rattle.s66_checker.proofs.Issues.{results-looked, point-looked}
 use Rattle.s66_checker.proofs.replay.timing.next_point.Goals as goal
 
 starts : (b : Problem) (xs : List Point) (r : Row) (start : ℕ) → AreTimed xs → start ≡ start_of b (reverse xs) r → start ≤ TOTAL_LIMIT + 3
-starts b xs r start timed is =
-    omega (arith, is, start-le b (reverse xs) r (timed-small xs timed), greatest-reverse end_of xs, timed-total xs timed)
+starts b xs r start timed is = omega (arith, is, start-le b (reverse xs) r (timed-small xs timed), greatest-reverse end_of xs, timed-total xs timed)
 
 latencies : (r : Row) (ws : List Write) → IsInRange r → ws ≡ r.writes → greatest (λ (w : Write). w.latency) ws ≤ 100
 latencies r ws good is = subst (λ (vs : List Write). greatest (λ (w : Write). w.latency) vs ≤ 100) (sym is) (latencies-le r good)
@@ -23,23 +22,22 @@ results-results-requires-clause-latencies c = latencies _ c.as_slice.result.now 
 pub results-results-requires-clause-start : goal.results-results-requires-clause-start
 results-results-requires-clause-start c = starts (with_profile c.args.profile.now) c.args.past.now c.args.row c.start-start.result c.requires (c.start-start.ensures (with_profile c.args.profile.now) c.issue-issue.ensures)
 
-pub free_after-free-requires-clause-start : goal.free_after-free-requires-clause-start
-free_after-free-requires-clause-start c =
-    omega (arith, c.row.invariant.hold, starts (with_profile c.args.profile.now) c.args.past.now c.args.row c.start-start.result c.requires (c.start-start.ensures (with_profile c.args.profile.now) c.issue-issue.ensures))
-
-pub free_after-free-requires-clause-results : goal.free_after-free-requires-clause-results
-free_after-free-requires-clause-results c =
-    let b = with_profile c.args.profile.now in
-    let xs = c.args.past.now in
-    let start = c.start-start.result in
-    let ws = c.as_slice.result.now in
-    omega (
-      arith,
-      ap (greatest (λ (d : ResultAt). d.time)) (c.as_slice-2.ensures.value ∙ c.results-results.ensures ∙ results-looked xs start ws),
-      results-le (reverse xs) start ws (timed-small xs c.requires) (latencies _ ws c.row.invariant c.as_slice.ensures.value) (omega (arith, start-le b (reverse xs) c.args.row (timed-small xs c.requires), c.start-start.ensures b c.issue-issue.ensures)),
-      greatest-reverse end_of xs,
-      timed-total xs c.requires,
-    )
+pub free_after-free-requires : goal.free_after-free-requires
+free_after-free-requires c = record {
+  start = omega (arith, c.row.invariant.hold, starts (with_profile c.args.profile.now) c.args.past.now c.args.row c.start-start.result c.requires (c.start-start.ensures (with_profile c.args.profile.now) c.issue-issue.ensures));
+  results =
+      let b = with_profile c.args.profile.now in
+      let xs = c.args.past.now in
+      let start = c.start-start.result in
+      let ws = c.as_slice.result.now in
+      omega (
+        arith,
+        ap (greatest (λ (d : ResultAt). d.time)) (c.as_slice-2.ensures.value ∙ c.results-results.ensures ∙ results-looked xs start ws),
+        results-le (reverse xs) start ws (timed-small xs c.requires) (latencies _ ws c.row.invariant c.as_slice.ensures.value) (omega (arith, start-le b (reverse xs) c.args.row (timed-small xs c.requires), c.start-start.ensures b c.issue-issue.ensures)),
+        greatest-reverse end_of xs,
+        timed-total xs c.requires,
+      );
+}
 
 pub parcel-requires : goal.parcel-requires
 parcel-requires c = rw c.points.ensures c.requires

@@ -22,17 +22,11 @@ returns-then-total c =
     (omega (arith, c.if-total.true, c.total.ensures, c.total-in-WrittenEarlier.ensures, ap (λ (p : Problem). total_of p c.args.self.now.numbers) c.requires))
     ∙ ap (λ (rule : Rule). dominates_by rule b c.args.self.now.numbers c.args.at.now.numbers) (sym c.in-WrittenEarlier.is)
 
-pub is_no_later-requires-clause-own : goal.is_no_later-requires-clause-own
-is_no_later-requires-clause-own c = prefix-timed _ _ _ _ _ _ _ c.self.invariant
+pub is_no_later-requires : goal.is_no_later-requires
+is_no_later-requires c = record { own = prefix-timed _ _ _ _ _ _ _ c.self.invariant; other = prefix-timed _ _ _ _ _ _ _ c.at.invariant }
 
-pub is_no_later-requires-clause-other : goal.is_no_later-requires-clause-other
-is_no_later-requires-clause-other c = prefix-timed _ _ _ _ _ _ _ c.at.invariant
-
-pub is_no_later-requires-in-ClampedStanding-clause-own : goal.is_no_later-requires-in-ClampedStanding-clause-own
-is_no_later-requires-in-ClampedStanding-clause-own c = prefix-timed _ _ _ _ _ _ _ c.self.invariant
-
-pub is_no_later-requires-in-ClampedStanding-clause-other : goal.is_no_later-requires-in-ClampedStanding-clause-other
-is_no_later-requires-in-ClampedStanding-clause-other c = prefix-timed _ _ _ _ _ _ _ c.at.invariant
+pub is_no_later-requires-in-ClampedStanding : goal.is_no_later-requires-in-ClampedStanding
+is_no_later-requires-in-ClampedStanding c = record { own = prefix-timed _ _ _ _ _ _ _ c.self.invariant; other = prefix-timed _ _ _ _ _ _ _ c.at.invariant }
 
 pub returns-else-total : goal.returns-else-total
 returns-else-total c =

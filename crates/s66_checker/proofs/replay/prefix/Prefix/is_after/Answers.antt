@@ -14,8 +14,7 @@ returns-then-shared-own c =
     elim c.then-shared-own.branch [
       | then-shared-own-via-then-shared-own w ↦ inr (omega (arith, w.if-shared-own.true, ap (λ (xs : List ℕ). length xs) own))
       | then-shared-own-via-else-shared-own+then-shared-numbers w ↦ inl (omega (arith, w.if-shared-numbers.true))
-    ]
-    in
+    ] in
     same-never k ns ms short (sym c.shared_with-shared.ensures.same)
 
 pub returns : goal.returns

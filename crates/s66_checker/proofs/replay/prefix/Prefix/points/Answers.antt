@@ -9,5 +9,4 @@ pub returns-clause-timed : goal.returns-clause-timed
 returns-clause-timed c = rw c.points.ensures (prefix-timed _ _ _ _ _ _ _ c.self.invariant)
 
 pub returns-clause-begins : goal.returns-clause-begins
-returns-clause-begins c =
-    subst (λ (q : Checked). IsBeginning q.problem.block q.numbers) c.self.view_is (keeps _ _ _ _ _ _ _ c.self.invariant).begins
+returns-clause-begins c = subst (λ (q : Checked). IsBeginning q.problem.block q.numbers) c.self.view_is (keeps _ _ _ _ _ _ _ c.self.invariant).begins
