@@ -7,21 +7,19 @@ use Rattle.s66_time.proofs.Clocks.{clock-words, clock-turn}
 use Rattle.s66_time.proofs.MarkedWords.{waits-le}
 use Rattle.s66_time.proofs.clock.Clock.readers_of.Goals as goal
 
-pub returns-clause-value : goal.returns-clause-value
-returns-clause-value c =
+pub returns : goal.returns
+returns c =
     let b : Problem = record { block = instrs_of c.self.inside.block.now; profile = c.self.inside.profile } in
     let ks = c.self.inside.steps in
-    c.at.ensures (readers_wait (points_of b (numbers_of ks))) (clock-words b c.self.inside.words ks c.self.invariant.clock).read ∙ ap (λ t. readers_wait (points t) c.args.register) c.self.view_is
-
-pub returns-clause-at_most : goal.returns-clause-at_most
-returns-clause-at_most c =
-    let b : Problem = record { block = instrs_of c.self.inside.block.now; profile = c.self.inside.profile } in
-    let ks = c.self.inside.steps in
-    let s = points_of b (numbers_of ks) in
-    let turn = clock-turn b c.self.inside.words ks c.self.invariant.clock in
-    omega (
-      arith,
-      c.at.ensures (readers_wait s) (clock-words b c.self.inside.words ks c.self.invariant.clock).read,
-      waits-le s (λ (p : Point). has_reg c.args.register p.row.reads) turn,
-      turn.early,
-    )
+    record {
+      value = c.at.ensures (readers_wait (points_of b (numbers_of ks))) (clock-words b c.self.inside.words ks c.self.invariant.clock).read ∙ ap (λ t. readers_wait (points t) c.args.register) c.self.view_is;
+      at_most =
+          let s = points_of b (numbers_of ks) in
+          let turn = clock-turn b c.self.inside.words ks c.self.invariant.clock in
+          omega (
+            arith,
+            c.at.ensures (readers_wait s) (clock-words b c.self.inside.words ks c.self.invariant.clock).read,
+            waits-le s (λ (p : Point). has_reg c.args.register p.row.reads) turn,
+            turn.early,
+          );
+    }

@@ -11,23 +11,21 @@ use Rattle.s66_model.proofs.Remaining.{step-begins}
 use Rattle.s66_time.proofs.LongestBeginning.{beginning-few, not_ready}
 use Rattle.s66_time.proofs.graph.beginning.beginning_length.Goals as goal
 
-pub returns-then-not-has-clause-front : goal.returns-then-not-has-clause-front
-returns-then-not-has-clause-front c =
-    let block = instrs_of c.args.block.now in
+pub returns-then-not-has : goal.returns-then-not-has
+returns-then-not-has c =
     let ns = c.args.numbers.now in
     let i = c.loop-position.position in
-    let tells = c.has.ensures ∙ has-ready_same block _ (take i ns) _ (get_or ns i 0) (c.ready.ensures block c.of-dependences.ensures) c.loop-position.invariant.placed in
     record {
-      within = omega arith;
-      front = beginning-front block (take i ns) c.loop-position.invariant.beginning;
-      longest = inr (not_ready block ns i 0 (omega arith) (sym tells ∙ c.if-not-has.true));
+      front =
+          let block = instrs_of c.args.block.now in
+          let tells = c.has.ensures ∙ has-ready_same block _ (take i ns) _ (get_or ns i 0) (c.ready.ensures block c.of-dependences.ensures) c.loop-position.invariant.placed in
+          record {
+            within = omega arith;
+            front = beginning-front block (take i ns) c.loop-position.invariant.beginning;
+            longest = inr (not_ready block ns i 0 (omega arith) (sym tells ∙ c.if-not-has.true));
+          };
+      few = omega (arith, length-take i ns, beginning-few (instrs_of c.args.block.now) (take i ns) c.loop-position.invariant.beginning);
     }
-
-pub returns-then-not-has-clause-few : goal.returns-then-not-has-clause-few
-returns-then-not-has-clause-few c =
-    let ns = c.args.numbers.now in
-    let i = c.loop-position.position in
-    omega (arith, length-take i ns, beginning-few (instrs_of c.args.block.now) (take i ns) c.loop-position.invariant.beginning)
 
 pub with-placed-requires : goal.with-placed-requires
 with-placed-requires c = numbers_in-range c.ready.result (get_or c.args.numbers.now c.loop-position.position 0) (sym c.has.ensures ∙ c.if-not-has.false)
@@ -49,19 +47,17 @@ loop-position-preserved c =
       beginning = subst (IsBeginning block) (sym more) (step-begins block (take i ns) n c.loop-position.invariant.beginning (sym tells ∙ c.if-not-has.false));
     }
 
-pub returns-clause-front : goal.returns-clause-front
-returns-clause-front c =
-    let block = instrs_of c.args.block.now in
+pub returns : goal.returns
+returns c =
     let ns = c.args.numbers.now in
     let i = c.loop-position.position in
     record {
-      within = omega arith;
-      front = subst (λ k. IsFront block (take k ns)) (omega arith) (beginning-front block (take i ns) c.loop-position.invariant.beginning);
-      longest = inl refl;
+      front =
+          let block = instrs_of c.args.block.now in
+          record {
+            within = omega arith;
+            front = subst (λ k. IsFront block (take k ns)) (omega arith) (beginning-front block (take i ns) c.loop-position.invariant.beginning);
+            longest = inl refl;
+          };
+      few = omega (arith, length-take i ns, beginning-few (instrs_of c.args.block.now) (take i ns) c.loop-position.invariant.beginning);
     }
-
-pub returns-clause-few : goal.returns-clause-few
-returns-clause-few c =
-    let ns = c.args.numbers.now in
-    let i = c.loop-position.position in
-    omega (arith, length-take i ns, beginning-few (instrs_of c.args.block.now) (take i ns) c.loop-position.invariant.beginning)

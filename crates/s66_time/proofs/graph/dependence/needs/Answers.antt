@@ -22,13 +22,11 @@ loop-position-preserved c = λ block kept last m.
     let n = length c.args.earlier.now + 1 in
     let e = c.index-earlier-position.result in
     let of_e : AreEffects e (instr_at block (i + 1)) =
-    subst (λ (x : Effects). AreEffects x (instr_at block (i + 1))) (sym c.index-earlier-position.is) (kept i e c.loop-position-test.true)
-    in
+    subst (λ (x : Effects). AreEffects x (instr_at block (i + 1))) (sym c.index-earlier-position.is) (kept i e c.loop-position-test.true) in
     let depends-is : c.is_conflict.result ≡ depends block (i + 1) n =
     c.is_conflict.ensures
     ∙ (conflict-is e c.args.later.now (instr_at block (i + 1)) (instr_at block n) of_e last
-    ∙ sym (depends-conflict block (i + 1) n (omega arith)))
-    in
+    ∙ sym (depends-conflict block (i + 1) n (omega arith))) in
     elim c.if-is_conflict.branch [
       | then-is_conflict w ↦
           ap (λ (s : Set). has m (numbers_in s)) w.needs-is

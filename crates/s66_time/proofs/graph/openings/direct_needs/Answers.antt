@@ -8,11 +8,10 @@ use Rattle.s66_time.proofs.Opened.{direct-next}
 use Rattle.s66_time.proofs.graph.openings.direct_needs.Goals as goal
 
 pub loop-k-init : goal.loop-k-init
-loop-k-init c =
-    record {
-      range = λ k is. c.requires.needs k (sym (ap (has k) c.needs-direct.ensures) ∙ is);
-      found = λ m. ap (λ ns. has m ns && not (some_of (λ k. has m (needs_of c.args.dependences.now k)) ns)) c.needs-direct.ensures;
-    }
+loop-k-init c = record {
+  range = λ k is. c.requires.needs k (sym (ap (has k) c.needs-direct.ensures) ∙ is);
+  found = λ m. ap (λ ns. has m ns && not (some_of (λ k. has m (needs_of c.args.dependences.now k)) ns)) c.needs-direct.ensures;
+}
 
 pub needs-requires : goal.needs-requires
 needs-requires c =

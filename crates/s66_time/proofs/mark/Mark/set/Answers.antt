@@ -1,4 +1,4 @@
-use Rattle.std.proofs.Common.{rules, arith, ◌<◌, ◌∙◌, subst, length, get_or, set}
+use Rattle.std.proofs.Common.{rules, arith, ◌<◌, ◌∙◌, subst, length, set}
 use Rattle.std.proofs.lemmas.List.{get_or-set_same, get_or-set_other, length-set}
 use Rattle.s66_time.specs.KeptUnits.{first_kept}
 use Rattle.s66_time.specs.LatestWords.{words_from, kept_in, AreLatest}

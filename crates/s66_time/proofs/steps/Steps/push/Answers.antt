@@ -15,6 +15,5 @@ returns-clause-step c =
     ap (take (count + 1)) (items-with_items places (set slice count step) (length-set slice count step ∙ ap length c.deref_mut.ensures.value))
     ∙ ap (λ (steps : List Step). take (count + 1) (set steps count step)) c.deref_mut.ensures.value
     ∙ take_more_set places.items count step c.make_room.ensures.room
-    ∙ ap (λ (steps : List Step). steps ++ step ∷ []) (c.make_room.ensures.kept ∙ c.self.view_is)
-    in
+    ∙ ap (λ (steps : List Step). steps ++ step ∷ []) (c.make_room.ensures.kept ∙ c.self.view_is) in
     (step, written, c.push.ensures.number, c.push.ensures.back)

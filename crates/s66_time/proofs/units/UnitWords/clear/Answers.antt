@@ -22,11 +22,9 @@ loop-copy-preserved c =
       size = length-set ws place 0 ∙ c.loop-copy.invariant.size;
     }
 
-pub returns-clause-own : goal.returns-clause-own
-returns-clause-own c = λ i lt. c.loop-copy.invariant.own i (omega (arith, lt, c.loop-copy-test.false))
-
-pub returns-clause-size : goal.returns-clause-size
-returns-clause-size c = c.loop-copy.invariant.size
-
-pub returns-clause-others : goal.returns-clause-others
-returns-clause-others c = c.loop-copy.invariant.others
+pub returns : goal.returns
+returns c = record {
+  own = λ i lt. c.loop-copy.invariant.own i (omega (arith, lt, c.loop-copy-test.false));
+  others = c.loop-copy.invariant.others;
+  size = c.loop-copy.invariant.size;
+}

@@ -22,22 +22,22 @@ results-results-requires-clause-start c =
     let early = start-early c.args.profile.now s c.args.row.now c.issue-issue.result c.start-start.result turn issue (c.start-start.ensures c.args.profile.now s is turn issue) in
     omega (arith, early)
 
-pub free_after-free-requires-clause-start : goal.free_after-free-requires-clause-start
-free_after-free-requires-clause-start c =
+pub free_after-free-requires : goal.free_after-free-requires
+free_after-free-requires c =
     let (s, is, turn) = c.requires.follows in
     let issue = c.issue-issue.ensures s is in
-    let early = start-early c.args.profile.now s c.args.row.now c.issue-issue.result c.start-start.result turn issue (c.start-start.ensures c.args.profile.now s is turn issue) in
-    omega (arith, c.row.invariant.hold, early)
-
-pub free_after-free-requires-clause-results : goal.free_after-free-requires-clause-results
-free_after-free-requires-clause-results c =
-    let (s, is, turn) = c.requires.follows in
-    let ws = c.as_slice.result.now in
-    let start = c.start-start.result in
-    let issue = c.issue-issue.ensures s is in
-    let le = start-le3 c.args.profile.now s c.args.row.now c.issue-issue.result start turn issue (c.start-start.ensures c.args.profile.now s is turn issue) in
-    let short : greatest (λ (w : Write). w.latency) ws ≤ 100 = latencies c.row.inside.writes.items ws c.as_slice.ensures.value c.row.invariant.latencies in
-    omega (arith, turn.early, ap (greatest (λ (d : ResultAt). d.time)) (c.as_slice-2.ensures.value ∙ c.results-results.ensures (readers_wait s) is.read), results-le s start ws (small-turn s turn) short le)
+    record {
+      few = omega arith;
+      start =
+          let early = start-early c.args.profile.now s c.args.row.now c.issue-issue.result c.start-start.result turn issue (c.start-start.ensures c.args.profile.now s is turn issue) in
+          omega (arith, c.row.invariant.hold, early);
+      results =
+          let ws = c.as_slice.result.now in
+          let start = c.start-start.result in
+          let le = start-le3 c.args.profile.now s c.args.row.now c.issue-issue.result start turn issue (c.start-start.ensures c.args.profile.now s is turn issue) in
+          let short : greatest (λ (w : Write). w.latency) ws ≤ 100 = latencies c.row.inside.writes.items ws c.as_slice.ensures.value c.row.invariant.latencies in
+          omega (arith, turn.early, ap (greatest (λ (d : ResultAt). d.time)) (c.as_slice-2.ensures.value ∙ c.results-results.ensures (readers_wait s) is.read), results-le s start ws (small-turn s turn) short le);
+    }
 
 pub returns-clause-value : goal.returns-clause-value
 returns-clause-value c = λ s n is turn.

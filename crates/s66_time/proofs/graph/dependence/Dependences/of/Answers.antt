@@ -23,8 +23,7 @@ loop-position-preserved c =
     c.needs.ensures block (omega (arith, count)) (omega arith)
     (subst (λ (es : List Effects). AreEffectsOf es block) (sym read) c.loop-position.invariant.effects)
     (subst (λ n. AreEffects c.of-later.result (instr_at block (n + 1))) (sym count) last)
-    ∙ ap (λ n. needs block (n + 1)) count
-    in
+    ∙ ap (λ n. needs block (n + 1)) count in
     record {
       effects =
           subst (λ (es : List Effects). AreEffectsOf es block) (sym c.push-in-loop-position.ensures.items)

@@ -25,8 +25,7 @@ loop-n-init c =
     let k = length all in
     let count : length c.self.inside.needs.items ≡ k = sets-count c.self.inside.needs.items all c.self.view_is in
     let unplaced : (m : ℕ) → has m rest ≡ (has m (rising k 1) && not (has m placed)) =
-    λ m. c.without-rest.ensures m ∙ ap (λ ns. has m ns && not (has m placed)) (c.self.invariant ∙ ap (λ n. rising n 1) count)
-    in
+    λ m. c.without-rest.ensures m ∙ ap (λ ns. has m ns && not (has m placed)) (c.self.invariant ∙ ap (λ n. rising n 1) count) in
     record {
       rest = λ m is.
           let (listed, new) = and_parts (has m (rising k 1)) (not (has m placed)) (sym (unplaced m) ∙ is) in

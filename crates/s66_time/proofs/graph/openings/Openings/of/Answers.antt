@@ -11,16 +11,15 @@ use Rattle.s66_time.proofs.OrderNumbers.{rising-more}
 use Rattle.s66_time.proofs.Opened.{count-needs, needs-range, opens-from}
 use Rattle.s66_time.proofs.graph.openings.Openings.of.Goals as goal
 
-pub direct_needs-requires-clause-number : goal.direct_needs-requires-clause-number
-direct_needs-requires-clause-number c =
+pub direct_needs-requires : goal.direct_needs-requires
+direct_needs-requires c =
     let block = instrs_of c.args.block.now in
-    (omega arith, omega (arith, ap (λ (ns : List (List ℕ)). length ns) c.of-dependences.ensures, count-needs block))
-
-pub direct_needs-requires-clause-needs : goal.direct_needs-requires-clause-needs
-direct_needs-requires-clause-needs c =
-    let block = instrs_of c.args.block.now in
-    let n : ℕ = c.loop-position.position + 1 in
-    subst (λ (all : List (List ℕ)). (k : ℕ) → has k (needs_of all n) ≡ true → (1 ≤ k) × (k ≤ length all)) (sym c.of-dependences.ensures) (needs-range block n (omega arith) (omega arith))
+    record {
+      number = (omega arith, omega (arith, ap (λ (ns : List (List ℕ)). length ns) c.of-dependences.ensures, count-needs block));
+      needs =
+          let n : ℕ = c.loop-position.position + 1 in
+          subst (λ (all : List (List ℕ)). (k : ℕ) → has k (needs_of all n) ≡ true → (1 ≤ k) × (k ≤ length all)) (sym c.of-dependences.ensures) (needs-range block n (omega arith) (omega arith));
+    }
 
 pub loop-position-preserved : goal.loop-position-preserved
 loop-position-preserved c =
@@ -37,8 +36,7 @@ loop-position-preserved c =
           ap (λ (j : ℕ). has m (numbers_in (get_or more j no_set))) last
           ∙ (ap (λ (x : Set). has m (numbers_in x)) (get_or-append_seam direct c.direct_needs.result [] no_set)
           ∙ (c.direct_needs.ensures m ∙ ap (λ (j : ℕ). is_direct all m (j + 1)) (sym one)))
-    ]
-    in
+    ] in
     record {
       direct = subst (λ (sets : List Set). (i : ℕ) → i < here + 1 → (m : ℕ) → has m (numbers_in (get_or sets i no_set)) ≡ is_direct all m (i + 1)) (sym c.push.ensures.items) set;
       count = omega arith;
@@ -53,8 +51,7 @@ loop-position-2-preserved c =
     let found : numbers_in c.opened_by.result ≡ opens all (i + 1) =
     c.opened_by.ensures
     ∙ (ap (λ (sets : List Set). filter (λ m. has (i + 1) (numbers_in (get_or sets (m - 1) no_set))) (rising (length sets) 1)) c.as_slice.ensures.value
-    ∙ opens-from all direct (i + 1) count (λ j below. c.loop-position.invariant.direct j (omega (arith, below, c.loop-position.invariant.count))))
-    in
+    ∙ opens-from all direct (i + 1) count (λ j below. c.loop-position.invariant.direct j (omega (arith, below, c.loop-position.invariant.count)))) in
     record {
       opened =
           ap (map numbers_in) c.push-in-loop-position-2.ensures.items

@@ -7,8 +7,7 @@ use Rattle.s66_time.proofs.Opened.{count-needs, before-is, ready-set}
 use Rattle.s66_time.proofs.graph.openings.Openings.ready_before.Goals as goal
 
 pub with-requires : goal.with-requires
-with-requires c =
-    omega (arith, c.requires, c.opened.ensures.few)
+with-requires c = omega (arith, c.requires, c.opened.ensures.few)
 
 pub returns : goal.returns
 returns c =

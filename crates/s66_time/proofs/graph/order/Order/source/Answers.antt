@@ -12,10 +12,7 @@ use Rattle.s66_time.proofs.graph.order.Order.source.Goals.{After-instrs_of}
 pub loop-position-preserved : goal.loop-position-preserved
 loop-position-preserved c =
     let i = c.loop-position.position in
-    record {
-      order = c.push.ensures.items ∙ ap (λ xs. xs ++ (i + 1) ∷ []) c.loop-position.invariant.order ∙ sym (rising-more i);
-      count = omega arith;
-    }
+    record { order = c.push.ensures.items ∙ ap (λ xs. xs ++ (i + 1) ∷ []) c.loop-position.invariant.order ∙ sym (rising-more i); count = omega arith }
 
 legal : (c : After-instrs_of) → IsLegal c.instrs_of.result.items c.loop-position.order.items
 legal c =
@@ -24,12 +21,11 @@ legal c =
     (subst (IsLegal (instrs_of c.args.block.now)) (sym counted) (source-legal (instrs_of c.args.block.now)))
 
 pub invariant_of-result : goal.invariant_of-result
-invariant_of-result c =
-    record {
-      legal = legal c;
-      meaning = legal-meaning c.instrs_of.result.items c.loop-position.order.items (legal c);
-      few = omega (arith, ap length c.instrs_of.ensures);
-    }
+invariant_of-result c = record {
+  legal = legal c;
+  meaning = legal-meaning c.instrs_of.result.items c.loop-position.order.items (legal c);
+  few = omega (arith, ap length c.instrs_of.ensures);
+}
 
 pub returns-clause-legal : goal.returns-clause-legal
 returns-clause-legal c = legal c
