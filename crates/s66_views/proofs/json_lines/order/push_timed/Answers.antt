@@ -27,21 +27,16 @@ returns c =
     let sums = c.in_ok-sums.sums in
     let first : c.push_order_numbers.new.out.items ≡ out ++ head =
     c.in_ok-push_order_numbers.ensures ∙ ap₂ (λ a b. out ++ order_text a b c.numbers.result.now) c.total.ensures.value c.fillers-fillers.ensures
-    ∙ ap (λ ns. out ++ order_text total (fillers_in t) ns) (c.numbers.ensures.value ∙ ap (λ (o : Ordered). o.numbers) c.order.ensures.value)
-    in
+    ∙ ap (λ ns. out ++ order_text total (fillers_in t) ns) (c.numbers.ensures.value ∙ ap (λ (o : Ordered). o.numbers) c.order.ensures.value) in
     let second : c.push_points.new.out.items ≡ c.push_order_numbers.new.out.items ++ text =
-    c.in_ok-sums.ensures.text ∙ ap (λ (u : List Point). c.push_order_numbers.new.out.items ++ points_text u) points
-    in
+    c.in_ok-sums.ensures.text ∙ ap (λ (u : List Point). c.push_order_numbers.new.out.items ++ points_text u) points in
     let third : c.push_path.new.out.items ≡ c.push_points.new.out.items ++ way =
     c.in_ok-push_path.ensures
-    ∙ ap (λ ns. c.push_points.new.out.items ++ path_text ns) (c.as_slice.ensures.value ∙ c.path_of.ensures ∙ ap (map (λ (x : Step). x.number)) walked)
-    in
+    ∙ ap (λ ns. c.push_points.new.out.items ++ path_text ns) (c.as_slice.ensures.value ∙ c.path_of.ensures ∙ ap (map (λ (x : Step). x.number)) walked) in
     let fourth : c.push_steps.new.out.items ≡ c.push_path.new.out.items ++ adds =
-    c.in_ok-push_steps.ensures ∙ ap (λ (xs : List Step). c.push_path.new.out.items ++ steps_text (map (λ (x : Step). x.adds) xs)) walked
-    in
+    c.in_ok-push_steps.ensures ∙ ap (λ (xs : List Step). c.push_path.new.out.items ++ steps_text (map (λ (x : Step). x.adds) xs)) walked in
     let last : lost_text sums.first sums.second sums.third ≡ lost_of (stretches s) =
-    lost-texts sums (stretches s) (λ conflict. c.in_ok-sums.ensures.sums conflict ∙ ap (λ (u : List Point). lost conflict (stretches u)) points)
-    in
+    lost-texts sums (stretches s) (λ conflict. c.in_ok-sums.ensures.sums conflict ∙ ap (λ (u : List Point). lost conflict (stretches u)) points) in
     IfOk-equal c.push_lost.result _ _ _ c.push_lost.ensures
     (ap (λ u. c.push_steps.new.out.items ++ u) last
     ∙ ap (λ zs. zs ++ lost_of (stretches s)) (fourth ∙ ap (λ zs. zs ++ adds) (third ∙ ap (λ zs. zs ++ way) (second ∙ ap (λ zs. zs ++ text) first)))

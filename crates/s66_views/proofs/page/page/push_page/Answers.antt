@@ -15,8 +15,7 @@ returns c =
     let head = page_head p n found in
     let list = index p n blocks found in
     let listed : c.push_index.new.out.items ≡ c.push_head.new.out.items ++ list =
-    c.in_ok-push_index.ensures.text ∙ ap (λ (q : Profile). c.push_head.new.out.items ++ index q n blocks found) c.new-timer.ensures
-    in
+    c.in_ok-push_index.ensures.text ∙ ap (λ (q : Profile). c.push_head.new.out.items ++ index q n blocks found) c.new-timer.ensures in
     let first = more out c.push_head.new.out.items c.push_index.new.out.items head list c.in_ok-push_head.ensures listed in
     last c.push_entries.result out c.push_index.new.out.items c.push_entries.new.out.items (head ++ list) (entries (entry Orders p) n blocks found) first
     (subst (λ (q : Profile). OnOk c.push_entries.result (c.push_entries.new.out.items ≡ c.push_index.new.out.items ++ entries (entry Orders q) n blocks found))

@@ -7,7 +7,4 @@ use Rattle.s66_views.proofs.page.unit.cycles_worked.Goals as goal
 pub loop-work-preserved : goal.loop-work-preserved
 loop-work-preserved c =
     let one = weigh-more (λ (w : Work). w.hold) c.args.works.now c.loop-work.work-index (record { number = 0; kind = Boolean; issue = 0; start = 0; latency = 0; done = 0; free = 0; hold = 0 }) c.loop-work-test.true in
-    record {
-      value = omega (arith, c.hold_of.ensures, c.loop-work.invariant.value, one);
-      few = omega (arith, c.hold_of.type_inv, c.loop-work.invariant.few);
-    }
+    record { value = omega (arith, c.hold_of.ensures, c.loop-work.invariant.value, one); few = omega (arith, c.hold_of.type_inv, c.loop-work.invariant.few) }
