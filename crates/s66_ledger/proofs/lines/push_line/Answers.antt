@@ -30,8 +30,7 @@ returns-in-Split-clause-rest c =
     let next : coming w.problem.block c.go_below.result c.go_below.new.walk.numbers ≡ children w.numbers (numbers_in c.ready-numbers.result) ++ later w.problem.block [] w.numbers =
     subst
     (λ (x : Walked). coming x.problem.block c.go_below.result c.go_below.new.walk.numbers ≡ children x.numbers (numbers_in c.ready-numbers.result) ++ later x.problem.block [] x.numbers)
-    c.ready-numbers.ensures.same c.go_below.ensures.next
-    in
+    c.ready-numbers.ensures.same c.go_below.ensures.next in
     line-appended _ _ _ _ _ (split-pushed _ _ _ _ c.in_ok-push.ensures.pushed (c.as_slice.ensures.value ∙ c.numbers.ensures))
     (split-line w.problem c.args.nodes.now c.requires.tree c.args.node.now w.numbers stands _ _ (get_or-any c.args.nodes.now c.args.node.now no_stored _ (λ (x : Node). x.state) stands.within ∙ c.in-Split.is) c.ready-numbers.ensures.ready next)
 

@@ -18,12 +18,10 @@ invariant_of-result c =
     let legal : IsLegal b.block other = subst (λ (p : Problem). IsLegal p.block other) own c.order-legal.ensures.legal in
     let falls : total_of b other ≤ total_of b s.best.numbers =
     subst (λ (p : Problem). total_of p other ≤ total_of b s.best.numbers) own
-    (subst (λ (a : AnswerOf). total_of c.args.timed.problem other ≤ (answer_of a).time) (sym c.self.view_is) c.requires.time)
-    in
+    (subst (λ (a : AnswerOf). total_of c.args.timed.problem other ≤ (answer_of a).time) (sym c.self.view_is) c.requires.time) in
     let faster : total_of b other < source_time b =
     subst (λ (p : Problem). total_of p other < source_time b) own
-    (subst (λ (a : AnswerOf). total_of c.args.timed.problem other < source_time a.problem) (sym c.self.view_is) c.requires.faster)
-    in
+    (subst (λ (a : AnswerOf). total_of c.args.timed.problem other < source_time a.problem) (sym c.self.view_is) c.requires.faster) in
     subst (λ (p : Problem). IsKeptAnswer (ended_of s.rule p s.budget nodes other s.splits) nodes s.bound s.source) (sym own)
     (reordered s.rule b s.budget nodes s.best.numbers other s.splits s.bound s.source c.self.invariant legal falls faster)
 
@@ -37,8 +35,7 @@ returns-clause-answer c =
     let legal : IsLegal b.block other = subst (λ (p : Problem). IsLegal p.block other) own c.order-legal.ensures.legal in
     let falls : total_of b other ≤ total_of b s.best.numbers =
     subst (λ (p : Problem). total_of p other ≤ total_of b s.best.numbers) own
-    (subst (λ (a : AnswerOf). total_of c.args.timed.problem other ≤ (answer_of a).time) (sym c.self.view_is) c.requires.time)
-    in
+    (subst (λ (a : AnswerOf). total_of c.args.timed.problem other ≤ (answer_of a).time) (sym c.self.view_is) c.requires.time) in
     ap (λ (p : Problem). ended_answer p (ledger_from p nodes other 0 [] s.splits)) own
     ∙ (reordered-answer s.rule b s.budget nodes s.best.numbers other s.splits s.bound s.source c.self.invariant legal falls
     ∙ (ap (λ (a : AnswerOf). record (answer_of a) { order = other; time = total_of b other }) c.self.view_is

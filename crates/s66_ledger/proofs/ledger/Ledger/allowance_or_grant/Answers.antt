@@ -11,8 +11,7 @@ pub returns-clause-leads : goal.returns-clause-leads
 returns-clause-leads c = event-leads c.args.self.now c.grant.new.self (Grant 1) (Granted c.in_ok-granted.granted) c.in_ok-granted.ensures.ok
 
 pub returns-clause-between : goal.returns-clause-between
-returns-clause-between c =
-    grant-between c.args.self.now c.grant.new.self c.in_ok-granted.granted c.in_ok-granted.ensures.ok c.requires.between
+returns-clause-between c = grant-between c.args.self.now c.grant.new.self c.in_ok-granted.granted c.in_ok-granted.ensures.ok c.requires.between
 
 pub returns-clause-spent : goal.returns-clause-spent
 returns-clause-spent c =

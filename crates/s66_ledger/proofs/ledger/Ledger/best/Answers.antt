@@ -10,5 +10,4 @@ returns-clause-covers c =
     subst (λ (l : LedgerOf). Covers l.rule l.problem l.budget l.state) c.self.view_is (reached-covers _ _ _ _ _ (_, c.self.invariant.run))
 
 pub returns-clause-table : goal.returns-clause-table
-returns-clause-table c =
-    subst (λ (l : LedgerOf). IsTable l.problem l.state) c.self.view_is (reached-table _ _ _ _ _ (_, c.self.invariant.run))
+returns-clause-table c = subst (λ (l : LedgerOf). IsTable l.problem l.state) c.self.view_is (reached-table _ _ _ _ _ (_, c.self.invariant.run))

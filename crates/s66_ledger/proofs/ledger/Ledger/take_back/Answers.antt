@@ -29,8 +29,7 @@ loop-node-preserved c =
     }
 
 pub returns-in_err-reopen-clause-leads : goal.returns-in_err-reopen-clause-leads
-returns-in_err-reopen-clause-leads c =
-    leads-on c.args.self.now c.loop-node.self c.reopen.new.self c.loop-node.invariant.leads c.reopen.ensures.leads
+returns-in_err-reopen-clause-leads c = leads-on c.args.self.now c.loop-node.self c.reopen.new.self c.loop-node.invariant.leads c.reopen.ensures.leads
 
 pub returns-clause-idle : goal.returns-clause-idle
 returns-clause-idle c =

@@ -7,11 +7,10 @@ use Rattle.s66_ledger.proofs.Events.{kept-lower, event-lower, event-not-lower, e
 use Rattle.s66_ledger.proofs.machine.Machine.offer.Goals as goal
 
 pub returns-then-not-is_of : goal.returns-then-not-is_of
-returns-then-not-is_of c =
-    record {
-      offered = event-other (stored_of c.self.inside) c.self.invariant c.args.self.now c.self.view_is c.args.w c.requires c.args.timed _ c.is_of.ensures c.if-not-is_of.true;
-      lines = refl;
-    }
+returns-then-not-is_of c = record {
+  offered = event-other (stored_of c.self.inside) c.self.invariant c.args.self.now c.self.view_is c.args.w c.requires c.args.timed _ c.is_of.ensures c.if-not-is_of.true;
+  lines = refl;
+}
 
 pub invariant_of-self : goal.invariant_of-self
 invariant_of-self c =

@@ -1,4 +1,4 @@
-use Rattle.std.proofs.Common.{inl, inr, ◌≢◌, ◌<◌, ◌∙◌, [], arith, length, get_or, true≢false, ap, sym, subst}
+use Rattle.std.proofs.Common.{rules, inl, inr, ◌≢◌, ◌<◌, ◌∙◌, [], arith, length, get_or, true≢false, ap, sym, subst}
 use Rattle.s66_model.specs.LegalOrder.{IsBeginning}
 use Rattle.s66_model.specs.Ledger as model
 use Rattle.s66_ledger.specs.Nodes.{prefixes}
@@ -21,28 +21,26 @@ prefix_of-requires-clause-few c =
     let lt : c.args.node < length m.nodes = omega (arith, c.requires, length-nodes m.problem m.nodes, ap (λ (l : MachineOf). length l.state.nodes) c.self.view_is) in
     omega (arith, kept-short m c.self.invariant c.args.node lt, c.count.ensures.value, c.count.ensures.few)
 
-pub returns-then-has_length-clause-prefix : goal.returns-then-has_length-clause-prefix
-returns-then-has_length-clause-prefix c =
+pub returns-then-has_length : goal.returns-then-has_length
+returns-then-has_length c =
     let m = stored_of c.self.inside in
     let lt : c.args.node < length m.nodes = omega (arith, c.requires, length-nodes m.problem m.nodes, ap (λ (l : MachineOf). length l.state.nodes) c.self.view_is) in
-    c.prefix_of.ensures
-    ∙ (sym (ap (λ (n : model.Node). n.prefix) (at-nodes m.problem m.nodes c.args.node lt))
-    ∙ ap (λ (l : MachineOf). (model.node_at l.state.nodes c.args.node).prefix) c.self.view_is)
-
-pub returns-then-has_length-clause-begins : goal.returns-then-has_length-clause-begins
-returns-then-has_length-clause-begins c =
-    let m = stored_of c.self.inside in
-    let lt : c.args.node < length m.nodes = omega (arith, c.requires, length-nodes m.problem m.nodes, ap (λ (l : MachineOf). length l.state.nodes) c.self.view_is) in
-    subst (λ at. IsBeginning c.args.self.now.problem.block at) (sym c.prefix_of.ensures)
-    (subst (λ (l : MachineOf). IsBeginning l.problem.block (get_or (prefixes m.nodes) c.args.node [])) c.self.view_is
-    (kept-beginning m c.self.invariant c.args.node lt))
-
-pub returns-then-has_length-clause-whole : goal.returns-then-has_length-clause-whole
-returns-then-has_length-clause-whole c =
-    ap length c.prefix_of.ensures
-    ∙ (c.has_length.ensures.0 c.if-has_length.true
-    ∙ (c.count-then-is_live_below.ensures.value
-    ∙ ap (λ (l : MachineOf). length l.problem.block) c.self.view_is))
+    record {
+      prefix =
+          c.prefix_of.ensures
+          ∙ (sym (ap (λ (n : model.Node). n.prefix) (at-nodes m.problem m.nodes c.args.node lt))
+          ∙ ap (λ (l : MachineOf). (model.node_at l.state.nodes c.args.node).prefix) c.self.view_is);
+      begins =
+          subst (λ at. IsBeginning c.args.self.now.problem.block at) (sym c.prefix_of.ensures)
+          (subst (λ (l : MachineOf). IsBeginning l.problem.block (get_or (prefixes m.nodes) c.args.node [])) c.self.view_is
+          (kept-beginning m c.self.invariant c.args.node lt));
+      whole =
+          ap length c.prefix_of.ensures
+          ∙ (c.has_length.ensures.0 c.if-has_length.true
+          ∙ (c.count-then-is_live_below.ensures.value
+          ∙ ap (λ (l : MachineOf). length l.problem.block) c.self.view_is));
+      none = search rules;
+    }
 
 pub returns-else-is_live_below-clause-none : goal.returns-else-is_live_below-clause-none
 returns-else-is_live_below-clause-none c =

@@ -35,12 +35,11 @@ invariant_of-self-2 c =
     )
 
 pub returns-clause-ok : goal.returns-clause-ok
-returns-clause-ok c =
-    record {
-      all = c.append.new.nodes.items;
-      grafting = subst (λ xs. IsGrafting c.args.best c.args.root (map named c.args.dominances.now) xs c.args.below.now c.append.new.nodes.items) c.self.view_is c.in_ok-deepest.ensures.ok;
-      split = c.set_state.ensures;
-    }
+returns-clause-ok c = record {
+  all = c.append.new.nodes.items;
+  grafting = subst (λ xs. IsGrafting c.args.best c.args.root (map named c.args.dominances.now) xs c.args.below.now c.append.new.nodes.items) c.self.view_is c.in_ok-deepest.ensures.ok;
+  split = c.set_state.ensures;
+}
 
 pub overflow_sub-self : goal.overflow_sub-self
 overflow_sub-self c =
