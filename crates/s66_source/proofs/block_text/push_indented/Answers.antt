@@ -9,9 +9,8 @@ indent_of-indent-requires-clause-first c = (c.requires _ (among-at c.args.order.
 pub indent_of-indent-requires-clause-last : goal.indent_of-indent-requires-clause-last
 indent_of-indent-requires-clause-last c = (c.requires _ (among-at c.args.order.now c.loop-number.number-index 0 c.loop-number-test.true)).1
 
-pub bytes-requires-clause-first : goal.bytes-requires-clause-first
-bytes-requires-clause-first c = (c.requires _ (among-at c.args.order.now c.loop-number.number-index 0 c.loop-number-test.true)).0
-
-pub bytes-requires-clause-last : goal.bytes-requires-clause-last
-bytes-requires-clause-last c =
-    rw (length-map c.args.block.now.entries (λ (e : Entry). e.instr)) (c.requires _ (among-at c.args.order.now c.loop-number.number-index 0 c.loop-number-test.true)).1
+pub bytes-requires : goal.bytes-requires
+bytes-requires c = record {
+  first = (c.requires _ (among-at c.args.order.now c.loop-number.number-index 0 c.loop-number-test.true)).0;
+  last = rw (length-map c.args.block.now.entries (λ (e : Entry). e.instr)) (c.requires _ (among-at c.args.order.now c.loop-number.number-index 0 c.loop-number-test.true)).1;
+}

@@ -3,8 +3,5 @@ use Rattle.s66_line.specs.Fields.{lines_of}
 use Rattle.s66_source.proofs.ReadBack.{class_of-body, lines_of-line}
 use Rattle.s66_source.proofs.laws.copied_law.Goals as goal
 
-pub returns-clause-cut : goal.returns-clause-cut
-returns-clause-cut c = λ line text h. ap lines_of (append_assoc line (10 ∷ []) text) ∙ lines_of-line line text h
-
-pub returns-clause-class : goal.returns-clause-class
-returns-clause-class c = class_of-body
+pub returns : goal.returns
+returns c = record { cut = λ line text h. ap lines_of (append_assoc line (10 ∷ []) text) ∙ lines_of-line line text h; class = class_of-body }
