@@ -153,12 +153,12 @@ after_undo-clock b w all ks k e is =
 -- BUSY UNITS
 
 -- no more units are busy at the next slot than there are
-pub clock-fits : (b : Problem) (kind : Kind) (ns : List ℕ) → tally (busy_at kind (next (points_of b ns))) (points_of b ns) ≤ copies b kind
-clock-fits b kind ns = fits-run b kind [] ns (omega arith)
+pub clock-fits : (b : Problem) (w : Words) (ks : List Step) (kind : Kind) → IsClock b w ks → tally (busy_at kind (next (points_of b (numbers_of ks)))) (points_of b (numbers_of ks)) ≤ copies b kind
+clock-fits b w ks kind is = fits-run b kind [] (numbers_of ks) (omega arith)
 
 -- the next slot is no later than the total
-pub clock-next : (b : Problem) (ns : List ℕ) → next (points_of b ns) ≤ total (points_of b ns)
-clock-next b ns = next-le-total b [] ns (omega arith)
+pub clock-next : (b : Problem) (w : Words) (ks : List Step) → IsClock b w ks → next (points_of b (numbers_of ks)) ≤ total (points_of b (numbers_of ks))
+clock-next b w ks is = next-le-total b [] (numbers_of ks) (omega arith)
 
 pub clock-start : (b : Problem) (w : Words) (ks : List Step) → length b.block ≤ BLOCK_LIMIT → ks ≡ [] → ((p : Profile) → IsWords p [] w) → IsClock b w ks
 clock-start b w ks few none words =

@@ -1,5 +1,5 @@
 -- No word of a mark is later than another's, or than a clamp, exactly if its points are no later.
-use Rattle.std.proofs.Common.{ℕ, ◌+◌, ◌-◌, ◌≤◌, ◌<◌, ◌≡◌, max, List, get_or, refl, sym, arith, inl, inr, subst}
+use Rattle.std.proofs.Common.{ℕ, ◌+◌, ◌-◌, ◌≤◌, ◌<◌, ◌≡◌, max, List, [], get_or, refl, sym, arith, inl, inr, subst}
 use Rattle.std.proofs.lemmas.Bool.{cases_eq}
 use Rattle.s66_isa.specs.Registers.{index_of, register_at}
 use Rattle.s66_isa.specs.RegisterIndices.{register_at-index}
@@ -14,7 +14,8 @@ use Rattle.s66_time.specs.KeptUnits.{kept_of, first_kept}
 use Rattle.s66_time.specs.Marks.{IsMarkOf}
 use Rattle.s66_time.specs.declared.limits.TheConstants.{TOTAL_LIMIT}
 use Rattle.s66_time.specs.declared.mark.Mark.{Mark}
-use Rattle.s66_time.proofs.Clocks.{in-turn, clock-next}
+use Rattle.s66_model.proofs.LoadBound.{next-le-total}
+use Rattle.s66_time.proofs.Clocks.{in-turn}
 use Rattle.s66_time.proofs.KeptUnits.{kept-within, place-kind}
 use Rattle.s66_model.proofs.LowRegisters.{low-points}
 use Rattle.s66_time.proofs.MarkedWords.{none-free}
@@ -104,7 +105,7 @@ module _ (b : Problem) (c : Clamp) (other prefix : List ℕ) (m k : Mark) (of_ot
 -- the next slot of a mark is early
 pub mark-early : (b : Problem) (numbers : List ℕ) (m : Mark) → IsMarkOf b numbers m → next (points_of b numbers) ≤ TOTAL_LIMIT
 mark-early b numbers m is =
-    omega (arith, clock-next b numbers, (in-turn b numbers (omega (arith, beginning-few b.block numbers is.begins, is.few))).early)
+    omega (arith, next-le-total b [] numbers (omega arith), (in-turn b numbers (omega (arith, beginning-few b.block numbers is.begins, is.few))).early)
 
 pub same-clamp : (readers others now : ℕ) → readers ≡ now + 1 → others ≡ now → ◌≡◌ {A = Clamp} (record { readers = readers; others = others }) (clamp_at now)
 same-clamp readers others now r o = rw (r, o) refl

@@ -1,12 +1,8 @@
 use Rattle.std.proofs.Common.{ap, ltb, ◌∙◌}
-use Rattle.s66_line.specs.Block.{instrs_of}
-use Rattle.s66_model.specs.Timing.{Problem, points_of, done_of}
-use Rattle.s66_time.specs.Ticking.{points, numbers_of}
+use Rattle.s66_model.specs.Timing.{done_of}
+use Rattle.s66_time.specs.Ticking.{points}
 use Rattle.s66_time.proofs.Clocks.{clock-words}
 use Rattle.s66_time.proofs.clock.Clock.late.Goals as goal
 
 pub returns : goal.returns
-returns c = λ r low.
-    let b : Problem = record { block = instrs_of c.self.inside.block.now; profile = c.self.inside.profile } in
-    let ks = c.self.inside.steps in
-    c.after.ensures (done_of (points_of b (numbers_of ks))) (clock-words b c.self.inside.words ks c.self.invariant.clock).done r low ∙ ap (λ t. ltb c.args.time (done_of (points t) r)) c.self.view_is
+returns c = λ r low. c.after.ensures _ (clock-words _ _ _ c.self.invariant.clock).done r low ∙ ap (λ t. ltb c.args.time (done_of (points t) r)) c.self.view_is

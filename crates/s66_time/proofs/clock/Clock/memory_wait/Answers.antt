@@ -1,9 +1,8 @@
-use Rattle.std.proofs.Common.{ap, arith, cond, sym, ◌+◌, ◌∙◌}
+use Rattle.std.proofs.Common.{ap, arith, cond, sym, ◌+◌, ◌∙◌, ◌≡◌}
 use Rattle.s66_isa.specs.Lists.{greatest}
 use Rattle.s66_isa.specs.Table.{memory_pair}
 use Rattle.s66_line.specs.Block.{instrs_of}
-use Rattle.s66_model.specs.Timing.{Problem, Point, points_of}
-use Rattle.s66_model.specs.Dominance.{references_wait}
+use Rattle.s66_model.specs.Timing.{Point, points_of}
 use Rattle.s66_time.specs.ClockWords.{wait_of}
 use Rattle.s66_time.specs.Ticking.{points, numbers_of}
 use Rattle.s66_time.proofs.ClockPoints.{memory-is}
@@ -11,28 +10,18 @@ use Rattle.s66_time.proofs.Clocks.{clock-words, clock-turn}
 use Rattle.s66_time.proofs.MarkedWords.{waits-le}
 use Rattle.s66_time.proofs.clock.Clock.memory_wait.Goals as goal
 
-pub returns : goal.returns
-returns c =
-    let b : Problem = record { block = instrs_of c.self.inside.block.now; profile = c.self.inside.profile } in
-    let ks = c.self.inside.steps in
-    let s = points_of b (numbers_of ks) in
-    let words = clock-words b c.self.inside.words ks c.self.invariant.clock in
-    record {
-      value =
-          c.memory_wait.ensures
-          ∙ ap (λ x. wait_of c.args.memory x c.self.inside.words.progress.stores) words.refs
-          ∙ ap (λ x. wait_of c.args.memory (references_wait s) x) words.stores
-          ∙ sym (memory-is c.args.memory s)
-          ∙ ap (λ t. greatest (λ (p : Point). cond (memory_pair p.row.memory c.args.memory) (p.start + 1) 0) (points t)) c.self.view_is;
-      at_most =
-          let turn = clock-turn b c.self.inside.words ks c.self.invariant.clock in
-          omega (
-            arith,
-            c.memory_wait.ensures,
-            ap (λ x. wait_of c.args.memory x c.self.inside.words.progress.stores) words.refs,
-            ap (λ x. wait_of c.args.memory (references_wait s) x) words.stores,
-            memory-is c.args.memory s,
-            waits-le s (λ (p : Point). memory_pair p.row.memory c.args.memory) turn,
-            turn.early,
-          );
-    }
+waited : (c : goal.After-memory_wait) → c.memory_wait.result ≡ greatest (λ (p : Point). cond (memory_pair p.row.memory c.args.memory) (p.start + 1) 0) (points_of (record { block = instrs_of c.self.inside.block.now; profile = c.self.inside.profile }) (numbers_of c.self.inside.steps))
+waited c =
+    let words = clock-words _ _ _ c.self.invariant.clock in
+    c.memory_wait.ensures
+    ∙ ap (λ x. wait_of c.args.memory x c.self.inside.words.progress.stores) words.refs
+    ∙ ap (wait_of c.args.memory _) words.stores
+    ∙ sym (memory-is c.args.memory _)
+
+pub returns-clause-value : goal.returns-clause-value
+returns-clause-value c = waited c ∙ ap (λ t. greatest (λ (p : Point). cond (memory_pair p.row.memory c.args.memory) (p.start + 1) 0) (points t)) c.self.view_is
+
+pub returns-clause-at_most : goal.returns-clause-at_most
+returns-clause-at_most c =
+    let turn = clock-turn _ _ _ c.self.invariant.clock in
+    omega (arith, waited c, waits-le _ (λ (p : Point). memory_pair p.row.memory c.args.memory) turn, turn.early)

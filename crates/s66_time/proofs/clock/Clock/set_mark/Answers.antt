@@ -1,11 +1,10 @@
 use Rattle.std.proofs.Common.{ℕ, ap, arith, sym, subst, ◌+◌, ◌%◌, ◌≡◌, ◌<◌, ◌∙◌, get_or}
 use Rattle.s66_isa.specs.declared.instr.Kind.{Kind}
 use Rattle.s66_line.specs.Block.{instrs_of}
-use Rattle.s66_model.specs.Timing.{Problem, points_of}
-use Rattle.s66_time.specs.ClockWords.{IsWords}
+use Rattle.s66_model.specs.Timing.{Problem}
 use Rattle.s66_time.specs.KeptUnits.{kept_of, first_kept}
 use Rattle.s66_time.specs.LatestWords.{words_from, kept_in}
-use Rattle.s66_time.specs.Ticking.{Ticking, problem_of, numbers_of}
+use Rattle.s66_time.specs.Ticking.{Ticking, problem_of}
 use Rattle.s66_time.specs.Marks.{IsMarkOf}
 use Rattle.s66_time.proofs.Clocks.{clock-words, clock-turn}
 use Rattle.s66_time.proofs.KeptUnits.{count-same, first-same}
@@ -14,21 +13,15 @@ use Rattle.s66_time.proofs.MarkedWords.{latest-free}
 use Rattle.s66_time.proofs.clock.Clock.set_mark.Goals as goal
 
 pub set-requires-clause-follows : goal.set-requires-clause-follows
-set-requires-clause-follows c =
-    let b : Problem = record { block = instrs_of c.self.inside.block.now; profile = c.self.inside.profile } in
-    let ks = c.self.inside.steps in
-    (points_of b (numbers_of ks), clock-words b c.self.inside.words ks c.self.invariant.clock, clock-turn b c.self.inside.words ks c.self.invariant.clock)
+set-requires-clause-follows c = (_, clock-words _ _ _ c.self.invariant.clock, clock-turn _ _ _ c.self.invariant.clock)
 
 pub returns : goal.returns
 returns c =
     let b : Problem = record { block = instrs_of c.self.inside.block.now; profile = c.self.inside.profile } in
-    let ks = c.self.inside.steps in
-    let s = points_of b (numbers_of ks) in
-    let w = c.self.inside.words in
     let m = c.set.new.self in
     let f : Kind → ℕ = kept_in c.self.inside.shape.kept in
     let same : (kind : Kind) → f kind ≡ kept_of b kind = c.self.invariant.kept in
-    let is : IsWords b.profile s w = clock-words b w ks c.self.invariant.clock in
+    let is = clock-words b _ _ c.self.invariant.clock in
     subst (λ (t : Ticking). IsMarkOf (problem_of t) t.numbers m) c.self.view_is
     (record {
       begins = c.self.invariant.clock.begins;
@@ -45,5 +38,5 @@ returns c =
       units = λ kind i lt.
           let within : i < f kind = omega (arith, lt, same kind) in
           sym (own-at (first_kept f kind) (f kind) i m.words.words within ∙ ap (λ n. get_or m.words.words (n + i) 0) (first-same f (kept_of b) kind same))
-          ∙ latest-free b.profile s w kind (f kind) (words_from (first_kept f kind) (f kind) m.words.words) is (omega (arith, same kind)) (c.set.ensures.units kind) i within;
+          ∙ latest-free _ _ _ kind (f kind) (words_from (first_kept f kind) (f kind) m.words.words) is (omega (arith, same kind)) (c.set.ensures.units kind) i within;
     })

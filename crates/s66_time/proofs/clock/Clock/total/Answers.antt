@@ -4,8 +4,8 @@ use Rattle.s66_time.specs.Ticking.{points}
 use Rattle.s66_time.proofs.Clocks.{clock-words, clock-turn}
 use Rattle.s66_time.proofs.clock.Clock.total.Goals as goal
 
-pub returns : goal.returns
-returns c = record {
-  value = (clock-words _ c.self.inside.words c.self.inside.steps c.self.invariant.clock).total ∙ ap (λ t. total (points t)) c.self.view_is;
-  at_most = omega (arith, (clock-words _ c.self.inside.words c.self.inside.steps c.self.invariant.clock).total, (clock-turn _ c.self.inside.words c.self.inside.steps c.self.invariant.clock).early);
-}
+pub returns-clause-value : goal.returns-clause-value
+returns-clause-value c = (clock-words _ _ _ c.self.invariant.clock).total ∙ ap (λ t. total (points t)) c.self.view_is
+
+pub returns-clause-at_most : goal.returns-clause-at_most
+returns-clause-at_most c = omega (arith, (clock-words _ _ _ c.self.invariant.clock).total, (clock-turn _ _ _ c.self.invariant.clock).early)
