@@ -4,7 +4,6 @@ use Rattle.s66_model.specs.Timing.{Problem, row_at}
 use Rattle.s66_model.specs.Leaves.{tail, link, is_linked}
 use Rattle.s66_model.specs.Tails.{longest_tail}
 use Rattle.s66_model.proofs.TailTable.{link-small, tail-fits}
-use Rattle.s66_bound.specs.InstructionCosts.{IsCostOf}
 use Rattle.s66_bound.proofs.CostOfNumber.{cost-of}
 use Rattle.s66_bound.proofs.printed.goes_on.Goals.{then-from-longest-via-then-from-longest, then-from-longest-via-else-from-longest+then-other-number}
 use Rattle.s66_bound.proofs.printed.goes_on.Goals as goal
@@ -13,11 +12,7 @@ pub overflow_add-result : goal.overflow_add-result
 overflow_add-result c =
     let (b, costs, tables) = c.requires.known in
     let (low, high, other_low, other_high) = c.requires.numbers in
-    let linked : c.link-link.result ≡ link (row_at b c.args.number) (row_at b c.args.other) =
-    c.link-link.ensures (row_at b c.args.number) (row_at b c.args.other)
-    (cost-of b c.args.costs.now c.args.number c.index-costs-number.result costs low high c.index-costs-number.is)
-    (cost-of b c.args.costs.now c.args.other c.index-costs-other.result costs other_low other_high c.index-costs-other.is)
-    in
+    let linked = c.link-link.ensures _ _ (cost-of b c.args.costs.now c.args.number _ costs low high c.index-costs-number.is) (cost-of b c.args.costs.now c.args.other _ costs other_low other_high c.index-costs-other.is) in
     omega (arith, linked, link-small b c.args.number c.args.other, tables.longest c.args.other other_low (omega (arith, other_high, costs.count)), tail-fits b c.args.other (omega (arith, costs.count, c.requires.few)))
 
 -- the walk from n ends with its tail
@@ -33,7 +28,7 @@ returns-then-from-longest c = λ b costs tables.
     let n : ℕ = c.args.number in
     let m : ℕ = c.args.other in
     let (low, high, other_low, other_high) = c.requires.numbers in
-    let from : IsCostOf (row_at b n) c.index-costs-number.result = cost-of b c.args.costs.now n c.index-costs-number.result costs low high c.index-costs-number.is in
+    let from = cost-of b c.args.costs.now n _ costs low high c.index-costs-number.is in
     let own = tables.longest n low (omega (arith, high, costs.count)) in
     elim c.then-from-longest.branch [
       | then-from-longest-via-then-from-longest w ↦
@@ -50,8 +45,8 @@ returns-then-link-gt0 c = λ b costs tables.
     let n : ℕ = c.args.number in
     let m : ℕ = c.args.other in
     let (low, high, other_low, other_high) = c.requires.numbers in
-    let from : IsCostOf (row_at b n) c.index-costs-number.result = cost-of b c.args.costs.now n c.index-costs-number.result costs low high c.index-costs-number.is in
-    let to : IsCostOf (row_at b m) c.index-costs-other.result = cost-of b c.args.costs.now m c.index-costs-other.result costs other_low other_high c.index-costs-other.is in
+    let from = cost-of b c.args.costs.now n _ costs low high c.index-costs-number.is in
+    let to = cost-of b c.args.costs.now m _ costs other_low other_high c.index-costs-other.is in
     let own = tables.longest n low (omega (arith, high, costs.count)) in
     let others = tables.longest m other_low (omega (arith, other_high, costs.count)) in
     let linked = c.link-link.ensures (row_at b n) (row_at b m) from to in
@@ -66,8 +61,6 @@ returns-else-link-gt0 c = λ b costs tables.
     let n : ℕ = c.args.number in
     let m : ℕ = c.args.other in
     let (low, high, other_low, other_high) = c.requires.numbers in
-    let from : IsCostOf (row_at b n) c.index-costs-number.result = cost-of b c.args.costs.now n c.index-costs-number.result costs low high c.index-costs-number.is in
-    let to : IsCostOf (row_at b m) c.index-costs-other.result = cost-of b c.args.costs.now m c.index-costs-other.result costs other_low other_high c.index-costs-other.is in
-    let linked = c.link-link.ensures (row_at b n) (row_at b m) from to in
+    let linked = c.link-link.ensures _ _ (cost-of b c.args.costs.now n _ costs low high c.index-costs-number.is) (cost-of b c.args.costs.now m _ costs other_low other_high c.index-costs-other.is) in
     le-ltb 0 c.link-link.result (omega (arith, c.if-link-gt0.false))
     ∙ sym (and_right (not (ends b n)) (is_linked b n m && keeps b n m) (and_left (is_linked b n m) (keeps b n m) (and_right (ltb n m) (ltb 0 (link (row_at b n) (row_at b m))) (le-ltb 0 (link (row_at b n) (row_at b m)) (omega (arith, linked, c.if-link-gt0.false))))))
