@@ -5,7 +5,10 @@ use Rattle.std.specs.List.{filter}
 use Rattle.std.proofs.lemmas.List.Elements.{filter-append}
 use Rattle.s66_isa.specs.Lists.{least, weigh, rising}
 use Rattle.s66_isa.proofs.Lists.{weigh-append}
+use Rattle.s66_model.specs.Timing.{Problem}
+use Rattle.s66_model.specs.LegalOrder.{is_remaining, sum_remaining}
 use Rattle.s66_model.proofs.Beginnings.{rising-push}
+use Rattle.s66_model.proofs.FloorParts.{sum_remaining-weigh}
 
 rising_more : (n : ℕ) → rising (n + 1) 1 ≡ rising n 1 ++ (n + 1) ∷ []
 rising_more n = rw add-one (rising-push n 1 ∙ ap (λ x. rising n 1 ++ x ∷ []) (omega arith))
@@ -26,6 +29,9 @@ sum_taken test f n passes =
 
 pub sum_passed : (test : ℕ → Bool) (f : ℕ → ℕ) (n : ℕ) → test (n + 1) ≡ false → weigh f (filter test (rising (n + 1) 1)) ≡ weigh f (filter test (rising n 1))
 sum_passed test f n fails = ap (weigh f) (sym (filter_passed test n (filter test (rising n 1)) refl fails))
+
+pub sum_all : (b : Problem) (prefix : List ℕ) (f : ℕ → ℕ) (n : ℕ) → n ≡ length b.block → weigh f (filter (is_remaining b.block prefix) (rising n 1)) ≡ sum_remaining b.block prefix f
+sum_all b prefix f n all = ap (λ k. weigh f (filter (is_remaining b.block prefix) (rising k 1))) all ∙ sym (sum_remaining-weigh b prefix f)
 
 -- THE LEAST SO FAR, none of none
 

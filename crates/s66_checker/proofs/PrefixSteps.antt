@@ -77,7 +77,6 @@ pub prefix-push : (block : List Instr) (profile : Profile) (rows : List Row) (al
     IsPrefix block profile rows all placed ns xs → ((m : ℕ) → 1 ≤ m → has m (numbers_in more) ≡ (m == n || has m (numbers_in placed))) → is_ready block ns n ≡ true → p ≡ point_of (record { block = block; profile = profile }) (points_of (record { block = block; profile = profile }) ns) n →
     ms ≡ ns ++ n ∷ [] → ys ≡ xs ++ p ∷ [] → IsPrefix block profile rows all more ms ys
 prefix-push block profile rows all placed ns xs n more p ms ys is with ready made e4 e5 =
-    let (low, high, new, met) = ready-parts block ns n ready in
     let b : Problem = record { block = block; profile = profile } in
     record {
       some = is.some;

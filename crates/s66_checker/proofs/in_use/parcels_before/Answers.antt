@@ -1,12 +1,9 @@
-use Rattle.std.proofs.Common.{rules, ℕ, ◌+◌, ◌^◌, ◌≤◌, ◌<◌, ◌≡◌, Bool, true, false, cond, length, ◌∙◌, ap, sym, arith}
-use Rattle.std.specs.List.{filter}
-use Rattle.s66_isa.specs.Lists.{weigh, rising}
+use Rattle.std.proofs.Common.{rules, ℕ, ◌+◌, ◌^◌, ◌≤◌, ◌<◌, Bool, true, false, cond, ◌∙◌, sym, arith}
 use Rattle.s66_model.specs.Timing.{Problem, row_at}
 use Rattle.s66_model.specs.LegalOrder.{is_remaining}
-use Rattle.s66_model.proofs.FloorParts.{sum_remaining-weigh}
 use Rattle.s66_model.proofs.PointTimes.{good-at}
 use Rattle.s66_facts.specs.Ground.{known_of as known_in}
-use Rattle.s66_checker.proofs.NumbersInTurn.{sum_taken, sum_passed}
+use Rattle.s66_checker.proofs.NumbersInTurn.{sum_taken, sum_passed, sum_all}
 use Rattle.s66_checker.proofs.in_use.parcels_before.Goals.{then-is_remaining, else-is_remaining}
 use Rattle.s66_checker.proofs.in_use.parcels_before.Goals as goal
 
@@ -44,7 +41,4 @@ loop-position-preserved c =
 pub returns-clause-value : goal.returns-clause-value
 returns-clause-value c =
     let b = c.args.prefix.now.problem in
-    let test : ℕ → Bool = is_remaining b.block c.args.prefix.now.numbers in
-    let f : ℕ → ℕ = λ m. cond ((known_in c.args.known.now).before m c.args.n) (row_at b m).parcels 0 in
-    let all : c.loop-position.position ≡ length b.block = omega (arith, c.count-position-end.ensures.value) in
-    c.loop-position.invariant.sum ∙ ap (λ k. weigh f (filter test (rising k 1))) all ∙ sym (sum_remaining-weigh b c.args.prefix.now.numbers f)
+    c.loop-position.invariant.sum ∙ sum_all b c.args.prefix.now.numbers (λ m. cond ((known_in c.args.known.now).before m c.args.n) (row_at b m).parcels 0) c.loop-position.position (omega (arith, c.count-position-end.ensures.value))

@@ -1,14 +1,11 @@
-use Rattle.std.proofs.Common.{rules, ℕ, ◌+◌, ◌^◌, ◌<◌, ◌≡◌, Bool, length, ◌∙◌, ap, sym, arith}
-use Rattle.std.specs.List.{filter}
-use Rattle.s66_isa.specs.Lists.{weigh, rising}
+use Rattle.std.proofs.Common.{rules, ℕ, ◌+◌, ◌^◌, ◌<◌, Bool, ◌∙◌, ap, sym, arith}
 use Rattle.s66_isa.specs.Table.{Row}
 use Rattle.s66_model.specs.Timing.{row_at}
 use Rattle.s66_model.specs.LegalOrder.{is_remaining}
 use Rattle.s66_model.specs.Leaves.{work_of}
-use Rattle.s66_model.proofs.FloorParts.{sum_remaining-weigh}
 use Rattle.s66_model.proofs.PointTimes.{good-at}
 use Rattle.s66_checker.proofs.LeafBounds.{work-most}
-use Rattle.s66_checker.proofs.NumbersInTurn.{sum_taken, sum_passed}
+use Rattle.s66_checker.proofs.NumbersInTurn.{sum_taken, sum_passed, sum_all}
 use Rattle.s66_checker.proofs.leaf.remaining_work.Goals.{then-is_remaining, else-is_remaining}
 use Rattle.s66_checker.proofs.leaf.remaining_work.Goals as goal
 
@@ -42,7 +39,4 @@ loop-position-preserved c =
 pub returns-clause-value : goal.returns-clause-value
 returns-clause-value c =
     let b = c.args.prefix.now.problem in
-    let test : ℕ → Bool = is_remaining b.block c.args.prefix.now.numbers in
-    let f : ℕ → ℕ = λ m. work_of c.args.kind (row_at b m) in
-    let all : c.loop-position.position ≡ length b.block = omega (arith, c.count-position-end.ensures.value) in
-    c.loop-position.invariant.sum ∙ ap (λ k. weigh f (filter test (rising k 1))) all ∙ sym (sum_remaining-weigh b c.args.prefix.now.numbers f)
+    c.loop-position.invariant.sum ∙ sum_all b c.args.prefix.now.numbers (λ m. work_of c.args.kind (row_at b m)) c.loop-position.position (omega (arith, c.count-position-end.ensures.value))
