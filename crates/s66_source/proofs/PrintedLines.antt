@@ -1,5 +1,5 @@
 -- The lines of a source with their classes, in order, and the blocks of an accepted one, as printing and the frame go over them.
-use Rattle.std.proofs.Common.{◌≡◌, ◌≤◌, ◌+◌, ℕ, suc, Bool, true, false, if◌then◌else◌, None, List, [], ◌∷◌, length, map, refl, sym, ap, ◌∙◌, subst, inl, inr, arith}
+use Rattle.std.proofs.Common.{◌≡◌, ◌≤◌, ◌+◌, ℕ, suc, Bool, true, false, if◌then◌else◌, None, List, [], ◌∷◌, length, map, refl, ap, ◌∙◌, inl, inr, arith}
 use Rattle.std.specs.Prelude.{Result, Ok}
 use Rattle.s66_isa.specs.Lists.{Among}
 use Rattle.s66_line.specs.Fields.{lines_of}
@@ -13,7 +13,7 @@ use Rattle.s66_source.specs.declared.limits.TheConstants.{SOURCE_LINES_LIMIT}
 use Rattle.s66_source.specs.declared.error.SourceError.{SourceError}
 use Rattle.s66_source.proofs.ReaderBlocks.{Gives-accepted}
 use Rattle.s66_source.proofs.FlaggedLines.{length-flagged}
-use Rattle.s66_source.proofs.LineLaw.{no_refusal, neither, Rising, taken-line}
+use Rattle.s66_source.proofs.LineLaw.{no_refusal, neither, taken-line}
 
 -- LINES IN ORDER: numbers that rise by one, runs that do not fall
 
@@ -44,10 +44,6 @@ bytes-classed [] number run index label after = refl
 bytes-classed (line ∷ lines) number run index label after =
     let c : Class = class_at after line in
     ap (λ ls. line.bytes ∷ ls) (bytes-classed lines (suc number) (run_after run c) (place_after index c) (label_after label c line.bytes) (is_code c))
-
-pub Rising-ordered : (number run : ℕ) (lines : List Line) → Ordered number run lines → Rising number lines
-Rising-ordered number run [] h = tt
-Rising-ordered number run (l ∷ lines) h = (omega (arith, h.0), subst (λ k. Rising (suc k) lines) (sym h.0) (Rising-ordered (suc number) (run_behind l) lines h.2))
 
 pub run_behind-le : (l : Line) → l.run ≤ run_behind l
 run_behind-le l = elim (ends_run l.class) as (λ t. l.run ≤ (if t then suc l.run else l.run)) [ true ↦ omega arith | false ↦ omega arith ]

@@ -78,10 +78,8 @@ operand-trimmed bytes n spells =
 
 pub operand-again : (bytes : List ℕ) (n : Instr) → Spells bytes n → word (skip_blanks (after_word (trim is_trailing bytes))) ≡ word (skip_blanks (after_word bytes))
 operand-again bytes n spells =
-    let clean = spelled-ends_no_line (operation_in bytes) (operand_in bytes) n spells in
-    ap (λ w. word (skip_blanks w)) (after_word-trimmed bytes (ends_no_line-word (word bytes) clean.0.0))
-    ∙ ap word (skip_blanks-trimmed (after_word bytes))
-    ∙ word-trimmed (skip_blanks (after_word bytes)) (ends_no_line-word (word (skip_blanks (after_word bytes))) clean.1)
+    ap word (operand-trimmed bytes n spells)
+    ∙ word-trimmed (skip_blanks (after_word bytes)) (ends_no_line-word (word (skip_blanks (after_word bytes))) (spelled-ends_no_line (operation_in bytes) (operand_in bytes) n spells).1)
 
 -- it spells the same instruction
 spells-again : (bytes : List ℕ) (n : Instr) → Spells bytes n → Spells (trim is_trailing bytes) n
@@ -92,10 +90,8 @@ spells-again bytes n spells =
 
 rest-again : (bytes : List ℕ) (n : Instr) → Spells bytes n → rest_in (trim is_trailing bytes) ≡ trim is_trailing (rest_in bytes)
 rest-again bytes n spells =
-    let clean = spelled-ends_no_line (operation_in bytes) (operand_in bytes) n spells in
-    ap (λ w. after_word (skip_blanks w)) (after_word-trimmed bytes (ends_no_line-word (word bytes) clean.0.0))
-    ∙ ap after_word (skip_blanks-trimmed (after_word bytes))
-    ∙ after_word-trimmed (skip_blanks (after_word bytes)) (ends_no_line-word (word (skip_blanks (after_word bytes))) clean.1)
+    ap after_word (operand-trimmed bytes n spells)
+    ∙ after_word-trimmed (skip_blanks (after_word bytes)) (ends_no_line-word (word (skip_blanks (after_word bytes))) (spelled-ends_no_line (operation_in bytes) (operand_in bytes) n spells).1)
 
 -- with all characters of its operand
 all-again : (bytes : List ℕ) (n : Instr) → SpellsAll bytes n → SpellsAll (trim is_trailing bytes) n
