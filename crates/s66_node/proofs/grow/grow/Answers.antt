@@ -6,7 +6,6 @@ use Rattle.s66_model.specs.declared.rule.Rule.TheVariants.{NoneNamed, WrittenEar
 use Rattle.s66_model.specs.Timing.{Problem}
 use Rattle.s66_model.specs.Tree.{Alone}
 use Rattle.s66_model.specs.LegalOrder.{is_ready}
-use Rattle.s66_isa.specs.Members.{numbers_in}
 use Rattle.s66_time.proofs.LongestBeginning.{beginning-few}
 use Rattle.s66_node.specs.Walked.{Walked, front}
 use Rattle.s66_node.specs.declared.grow.OpenSplit.{OpenSplit}
@@ -57,22 +56,16 @@ loop-frame-init g c =
 
 pub push-requires-in-Some-pop_first : goal.push-requires-in-Some-pop_first
 push-requires-in-Some-pop_first g c =
-    let b = c.args.walk.now.problem in
-    let root = c.args.walk.now.numbers in
-    let high = g.L.Least.kept c.args.incumbent.now in
     let lf = c.loop-frame in
-    let few = child-few c.args.rule b high c.args.allowance root lf.walk.numbers lf.frames.items c.pop.new.self.items c.in-Some-pop.frame lf.grown lf.best (g.N.Naming.names lf.names) lf.invariant.grows c.in-Some-pop.ensures.items c.in-Some-pop_first.n (numbers_in c.pop_first.new.self) c.in-Some-pop_first.ensures.some in
-    let room = frames-few c.args.rule b high c.args.allowance root lf.walk.numbers lf.frames.items c.pop.new.self.items c.in-Some-pop.frame lf.grown lf.best (g.N.Naming.names lf.names) lf.invariant.grows c.in-Some-pop.ensures.items in
+    let few = child-few _ _ _ _ _ _ _ c.pop.new.self.items c.in-Some-pop.frame _ _ _ lf.invariant.grows c.in-Some-pop.ensures.items c.in-Some-pop_first.n _ c.in-Some-pop_first.ensures.some in
+    let room = frames-few _ _ _ _ _ _ _ c.pop.new.self.items c.in-Some-pop.frame _ _ _ lf.invariant.grows c.in-Some-pop.ensures.items in
     (omega arith, omega (arith, few, room, c.numbers.ensures.few))
 
 pub push-requires-in-Some-pop_first-2 : goal.push-requires-in-Some-pop_first-2
 push-requires-in-Some-pop_first-2 g c =
-    let b = c.args.walk.now.problem in
-    let root = c.args.walk.now.numbers in
-    let high = g.L.Least.kept c.args.incumbent.now in
     let lf = c.loop-frame in
     subst (λ (p : Problem). is_ready p.block lf.walk.numbers c.in-Some-pop_first.n ≡ true) (sym lf.invariant.problem)
-    (child-ready c.args.rule b high c.args.allowance root lf.walk.numbers lf.frames.items c.pop.new.self.items c.in-Some-pop.frame lf.grown lf.best (g.N.Naming.names lf.names) lf.invariant.grows c.in-Some-pop.ensures.items c.in-Some-pop_first.n (numbers_in c.pop_first.new.self) c.in-Some-pop_first.ensures.some)
+    (child-ready _ _ _ _ _ _ _ c.pop.new.self.items c.in-Some-pop.frame _ _ _ lf.invariant.grows c.in-Some-pop.ensures.items c.in-Some-pop_first.n _ c.in-Some-pop_first.ensures.some)
 
 pub unsplit_child-requires-clause-kept : goal.unsplit_child-requires-clause-kept
 unsplit_child-requires-clause-kept g c = c.loop-frame.invariant.kept
@@ -113,8 +106,6 @@ loop-frame-smaller-in-Some-child g c =
 pub loop-frame-preserved-in-Some-child : goal.loop-frame-preserved-in-Some-child
 loop-frame-preserved-in-Some-child g c =
     let b = c.args.walk.now.problem in
-    let root = c.args.walk.now.numbers in
-    let high = g.L.Least.kept c.args.incumbent.now in
     let lf = c.loop-frame in
     let n = c.in-Some-pop_first.n in
     let child = lf.walk.numbers ++ n ∷ [] in
@@ -140,7 +131,7 @@ loop-frame-preserved-in-Some-child g c =
       lowest = (c.unsplit_child.ensures.lowest.0 ∙ lf.invariant.lowest.0, omega (arith, c.unsplit_child.ensures.lowest.1 (omega (arith, lf.invariant.lowest.0, lf.invariant.lowest.1)), lf.invariant.lowest.0));
       suits = subst (λ (w : Walked). g.N.Naming.suits c.unsplit_child.new.names w.problem) walk_is c.unsplit_child.ensures.suits;
       grows =
-          child-unsplit c.args.rule b high c.args.allowance root lf.walk.numbers lf.frames.items c.pop.new.self.items c.in-Some-pop.frame lf.grown lf.best known lf.invariant.grows c.in-Some-pop.ensures.items
+          child-unsplit _ _ _ _ _ _ _ c.pop.new.self.items c.in-Some-pop.frame _ _ _ lf.invariant.grows c.in-Some-pop.ensures.items
           n frame c.in-Some-pop_first.ensures.some refl new c.unsplit_child.new.best c.unsplit_child.ensures.falls lf.invariant.falls (g.N.Naming.names c.unsplit_child.new.names) c.push-in-Some-pop_first.new.self.items c.undo.new.self.numbers
           u put found same (λ is lt. left is (lt-ltb lf.grown.splits c.args.allowance lt)) c.push-in-Some-pop_first.ensures.items up;
     }
@@ -159,15 +150,13 @@ returns-in_err-below-in-None g c = record {
 pub push-requires-in-None : goal.push-requires-in-None
 push-requires-in-None g c =
     let b = c.args.walk.now.problem in
-    let root = c.args.walk.now.numbers in
-    let high = g.L.Least.kept c.args.incumbent.now in
     let lf = c.loop-frame in
     let n = c.in-Some-pop_first.n in
     let child = lf.walk.numbers ++ n ∷ [] in
     let now = c.push-in-Some-pop_first-2.new.self in
     let frame : OpenSplit = record { node = c.in-Some-pop.frame.node; left = c.pop_first.new.self } in
     let walk_is : now ≡ record { problem = b; numbers = child } = c.push-in-Some-pop_first-2.ensures ∙ ap (λ (p : Problem). record { problem = p; numbers = child }) lf.invariant.problem in
-    let room = frames-few c.args.rule b high c.args.allowance root lf.walk.numbers lf.frames.items c.pop.new.self.items c.in-Some-pop.frame lf.grown lf.best (g.N.Naming.names lf.names) lf.invariant.grows c.in-Some-pop.ensures.items in
+    let room = frames-few _ _ _ _ _ _ _ c.pop.new.self.items c.in-Some-pop.frame _ _ _ lf.invariant.grows c.in-Some-pop.ensures.items in
     let here : IsDue now.problem c.unsplit_child.new.best now.numbers = subst (λ (o : Option Unsplit). IfNone o (IsDue now.problem c.unsplit_child.new.best now.numbers)) c.in-None.is c.in_ok-child.ensures.due in
     let due : IsDue b c.unsplit_child.new.best child = subst (λ (w : Walked). IsDue w.problem c.unsplit_child.new.best w.numbers) walk_is here in
     (omega arith, omega (arith, room, due.0, length-append lf.walk.numbers (n ∷ []), c.numbers.ensures.few, ap (λ (xs : List OpenSplit). length xs) {x = c.push-in-Some-pop_first.new.self.items} c.push-in-Some-pop_first.ensures.items, length-append c.pop.new.self.items (frame ∷ [])))
@@ -184,8 +173,6 @@ loop-frame-smaller-in-None g c =
 pub loop-frame-preserved-in-None : goal.loop-frame-preserved-in-None
 loop-frame-preserved-in-None g c =
     let b = c.args.walk.now.problem in
-    let root = c.args.walk.now.numbers in
-    let high = g.L.Least.kept c.args.incumbent.now in
     let lf = c.loop-frame in
     let n = c.in-Some-pop_first.n in
     let child = lf.walk.numbers ++ n ∷ [] in
@@ -208,7 +195,7 @@ loop-frame-preserved-in-None g c =
       lowest = (c.unsplit_child.ensures.lowest.0 ∙ lf.invariant.lowest.0, omega (arith, c.unsplit_child.ensures.lowest.1 (omega (arith, lf.invariant.lowest.0, lf.invariant.lowest.1)), lf.invariant.lowest.0));
       suits = subst (λ (w : Walked). g.N.Naming.suits c.unsplit_child.new.names w.problem) walk_is c.unsplit_child.ensures.suits;
       grows =
-          child-split c.args.rule b high c.args.allowance root lf.walk.numbers lf.frames.items c.pop.new.self.items c.in-Some-pop.frame lf.grown lf.best known lf.invariant.grows c.in-Some-pop.ensures.items
+          child-split _ _ _ _ _ _ _ c.pop.new.self.items c.in-Some-pop.frame _ _ _ lf.invariant.grows c.in-Some-pop.ensures.items
           n frame c.in-Some-pop_first.ensures.some refl new c.unsplit_child.new.best c.unsplit_child.ensures.falls lf.invariant.falls (g.N.Naming.names c.unsplit_child.new.names) c.push-in-None.new.self.items c.push_split-in-None.new.walk.numbers
           below put due kept lt (c.push-in-None.ensures.items ∙ ap (λ fs. fs ++ below ∷ []) c.push-in-Some-pop_first.ensures.items) (ap (λ (w : Walked). w.numbers) c.push_split-in-None.ensures.same ∙ ap (λ (w : Walked). w.numbers) walk_is);
     }
@@ -216,7 +203,7 @@ loop-frame-preserved-in-None g c =
 pub undo-requires-then-not-is_empty : goal.undo-requires-then-not-is_empty
 undo-requires-then-not-is_empty g c =
     let lf = c.loop-frame in
-    deep-enough c.args.rule c.args.walk.now.problem (g.L.Least.kept c.args.incumbent.now) c.args.allowance c.args.walk.now.numbers lf.walk.numbers lf.frames.items c.pop.new.self.items c.in-Some-pop.frame lf.grown lf.best (g.N.Naming.names lf.names) lf.invariant.grows c.in-Some-pop.ensures.items
+    deep-enough _ _ _ _ _ _ _ c.pop.new.self.items c.in-Some-pop.frame _ _ _ lf.invariant.grows c.in-Some-pop.ensures.items
     (not-empty c.pop.new.self.items (sym c.is_empty.ensures ∙ c.if-not-is_empty.true))
 
 pub loop-frame-smaller-then-not-is_empty : goal.loop-frame-smaller-then-not-is_empty
@@ -233,7 +220,7 @@ loop-frame-preserved-then-not-is_empty g c =
       falls = was.falls;
       lowest = was.lowest;
       suits = was.suits;
-      grows = goes-up c.args.rule c.args.walk.now.problem (g.L.Least.kept c.args.incumbent.now) c.args.allowance c.args.walk.now.numbers lf.walk.numbers lf.frames.items c.pop.new.self.items c.in-Some-pop.frame lf.grown lf.best (g.N.Naming.names lf.names) was.grows c.in-Some-pop.ensures.items
+      grows = goes-up _ _ _ _ _ _ _ c.pop.new.self.items c.in-Some-pop.frame _ _ _ was.grows c.in-Some-pop.ensures.items
           c.undo-then-not-is_empty.new.self.numbers c.in_default-pop_first.ensures.none (not-empty c.pop.new.self.items (sym c.is_empty.ensures ∙ c.if-not-is_empty.true)) (ap (λ (w : Walked). w.numbers) c.undo-then-not-is_empty.ensures);
     }
 
@@ -247,7 +234,7 @@ loop-frame-preserved g c =
       falls = was.falls;
       lowest = was.lowest;
       suits = was.suits;
-      grows = ends c.args.rule c.args.walk.now.problem (g.L.Least.kept c.args.incumbent.now) c.args.allowance c.args.walk.now.numbers lf.walk.numbers lf.frames.items c.pop.new.self.items c.in-Some-pop.frame lf.grown lf.best (g.N.Naming.names lf.names) was.grows c.in-Some-pop.ensures.items
+      grows = ends _ _ _ _ _ _ _ c.pop.new.self.items c.in-Some-pop.frame _ _ _ was.grows c.in-Some-pop.ensures.items
           c.in_default-pop_first.ensures.none (is-empty c.pop.new.self.items (sym c.is_empty.ensures ∙ c.if-not-is_empty.false));
     }
 

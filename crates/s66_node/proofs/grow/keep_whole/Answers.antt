@@ -11,7 +11,6 @@ returns-then-is_complete c =
     let b = c.args.walk.now.problem in
     let at = c.args.walk.now.numbers in
     let u = c.args.unsplit.now in
-    let v = c.in-Leaf.value in
     let whole : IsComplete b.block at = c.is_complete.ensures.complete.0 c.if-is_complete.true in
     λ rule best known found h least.
     let total = sym (ap value_by c.in-Leaf.is) ∙ (h.value ∙ floor-whole b at whole) in

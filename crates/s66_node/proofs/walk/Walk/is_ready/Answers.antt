@@ -23,6 +23,10 @@ unplaced-free all placed n met new tells =
     (λ each. tells.1 (λ m is. every-each (λ m. has m placed) m needed each (has-among m needed is)))
     (λ is. each-every (λ m. has m placed) needed (λ m among. tells.0 is m (among-has m needed among))))
 
+free-inside : (x w : Walked) (placed : List ℕ) (n : ℕ) → x ≡ w → ((m : ℕ) → has m placed ≡ has m x.numbers) → 1 ≤ n → n ≤ length x.problem.block → is_free (all_needs x.problem.block) placed n ≡ is_ready w.problem.block w.numbers n
+free-inside x w placed n same pushed low high =
+    is_free-ready x.problem.block placed n low high ∙ is_ready-same x.problem.block placed x.numbers n pushed ∙ ap (λ (y : Walked). is_ready y.problem.block y.numbers n) same
+
 pub needs-requires : goal.needs-requires
 needs-requires c =
     let block = instrs_of c.self.inside.clock.block in
@@ -30,26 +34,18 @@ needs-requires c =
 
 pub returns-then-has : goal.returns-then-has
 returns-then-has c =
-    let block = instrs_of c.self.inside.clock.block in
     let placed = numbers_in c.pushed-pushed.result in
     let n : ℕ = c.args.n in
-    let low : 1 ≤ n = omega (arith, c.if-n-eq0.false) in
-    let high : n ≤ length block = omega (arith, c.if-count-n.false, c.count.ensures.value, ap (λ block. length (instrs_of block)) c.block.ensures, ap (λ (x : Walked). length x.problem.block) c.self.view_is) in
-    sym (placed-free (all_needs block) placed n (sym c.has.ensures ∙ c.if-has.true))
-    ∙ (is_free-ready block placed n low high
-    ∙ (is_ready-same block placed c.self.inside.clock.numbers n c.pushed-pushed.ensures.value
-    ∙ ap (λ (x : Walked). is_ready x.problem.block x.numbers n) c.self.view_is))
+    sym (placed-free (all_needs (instrs_of c.self.inside.clock.block)) placed n (sym c.has.ensures ∙ c.if-has.true))
+    ∙ free-inside _ _ placed n c.self.view_is c.pushed-pushed.ensures.value (omega (arith, c.if-n-eq0.false))
+    (omega (arith, c.if-count-n.false, c.count.ensures.value, ap (λ block. length (instrs_of block)) c.block.ensures, ap (λ (x : Walked). length x.problem.block) c.self.view_is))
 
 pub returns : goal.returns
 returns c =
-    let block = instrs_of c.self.inside.clock.block in
     let placed = numbers_in c.pushed-pushed.result in
     let n : ℕ = c.args.n in
-    let low : 1 ≤ n = omega (arith, c.if-n-eq0.false) in
-    let high : n ≤ length block = omega (arith, c.if-count-n.false, c.count.ensures.value, ap (λ block. length (instrs_of block)) c.block.ensures, ap (λ (x : Walked). length x.problem.block) c.self.view_is) in
     let needed = c.needs.ensures ∙ ap (λ (ns : List (List ℕ)). get_or ns (n - 1) []) (c.dependences.ensures ∙ c.self.invariant.needs) in
-    sym (unplaced-free (all_needs block) placed n c.is_within.result (sym c.has.ensures ∙ c.if-has.false)
+    sym (unplaced-free (all_needs (instrs_of c.self.inside.clock.block)) placed n c.is_within.result (sym c.has.ensures ∙ c.if-has.false)
     (subst (λ ns. IsTrue c.is_within.result ↔ ((m : ℕ) → has m ns ≡ true → has m placed ≡ true)) needed c.is_within.ensures))
-    ∙ (is_free-ready block placed n low high
-    ∙ (is_ready-same block placed c.self.inside.clock.numbers n c.pushed-pushed.ensures.value
-    ∙ ap (λ (x : Walked). is_ready x.problem.block x.numbers n) c.self.view_is))
+    ∙ free-inside _ _ placed n c.self.view_is c.pushed-pushed.ensures.value (omega (arith, c.if-n-eq0.false))
+    (omega (arith, c.if-count-n.false, c.count.ensures.value, ap (λ block. length (instrs_of block)) c.block.ensures, ap (λ (x : Walked). length x.problem.block) c.self.view_is))

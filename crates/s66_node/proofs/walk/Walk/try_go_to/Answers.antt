@@ -9,26 +9,20 @@ use Rattle.s66_node.proofs.walk.Walk.try_go_to.Goals as goal
 
 pub returns-then-not-is_ready-clause-begins : goal.returns-then-not-is_ready-clause-begins
 returns-then-not-is_ready-clause-begins c =
-    let w = c.loop-position.self in
-    let block = c.args.self.now.problem.block in
     let ns = c.args.prefix.now in
     let i = c.loop-position.position in
-    let n = get_or ns i 0 in
-    let off : is_ready w.problem.block w.numbers n ≡ false = sym c.is_ready.ensures ∙ c.if-not-is_ready.true in
-    (λ is. absurd (true≢false (sym is)), λ h. absurd (true≢false (sym (ready-at block ns i h (omega arith)) ∙ subst (λ (x : Walked). is_ready x.problem.block x.numbers n ≡ false) c.loop-position.invariant.front off)))
+    (λ is. absurd (true≢false (sym is)), λ h. absurd (true≢false (sym (ready-at c.args.self.now.problem.block ns i h (omega arith)) ∙ subst (λ (x : Walked). is_ready x.problem.block x.numbers (get_or ns i 0) ≡ false) c.loop-position.invariant.front (sym c.is_ready.ensures ∙ c.if-not-is_ready.true))))
 
 pub push-requires : goal.push-requires
 push-requires c = sym c.is_ready.ensures ∙ c.if-not-is_ready.false
 
 pub loop-position-preserved : goal.loop-position-preserved
 loop-position-preserved c =
-    let w = c.loop-position.self in
     let block = c.args.self.now.problem.block in
     let ns = c.args.prefix.now in
     let i = c.loop-position.position in
     let n = get_or ns i 0 in
-    let on : is_ready w.problem.block w.numbers n ≡ true = sym c.is_ready.ensures ∙ c.if-not-is_ready.false in
-    let here : is_ready block (take i ns) n ≡ true = subst (λ (x : Walked). is_ready x.problem.block x.numbers n ≡ true) c.loop-position.invariant.front on in
+    let here = subst (λ (x : Walked). is_ready x.problem.block x.numbers n ≡ true) c.loop-position.invariant.front (sym c.is_ready.ensures ∙ c.if-not-is_ready.false) in
     let more = take_more ns i 0 (omega arith) in
     record {
       front =
