@@ -33,37 +33,28 @@ idle-snoc [] w is all (suc j) u e = absurd (some-ne-none u (sym e))
 idle-snoc (x ∷ xs) w is all zero u e = all 0 u e
 idle-snoc (x ∷ xs) w is all (suc j) u e = idle-snoc xs w is (λ k v. all (suc k) v) j u e
 
+-- one hand puts or takes, and keeps its parts
+moved : (port : ℕ) (v w : Hand) (items more : List TicketOf) (hands : List Hand) → 1 ≤ v.parts → w.parts ≡ v.parts → ((h : TicketOf → ℕ) → weigh h w.put + weigh h v.taken + weigh h items ≡ weigh h v.put + weigh h w.taken + weigh h more) → Balanced items hands → get_elem? hands port ≡ some v
+    → Balanced more (set hands port w)
+moved port v w items more hands some_part parts moves b at = (
+  (let s = weigh-at (λ u. u.parts) hands port v w at in let p = b.0 in omega arith),
+  (λ h.
+      let s = weigh-at (put_by h) hands port v w at in
+      let t = weigh-at (taken_by h) hands port v w at in
+      let r = b.1 h in
+      omega (arith, moves h)),
+  idle-set hands port w (λ none. absurd (omega arith)) b.2,
+)
+
 pub puts : (port : ℕ) (v : Hand) (ts : List TicketOf) → 1 ≤ v.parts → Pushes Balanced port v ts (HasPut v ts)
 puts port v ts some_part items hands b at =
-    let w : Hand = record v { put = v.put ++ ts } in (
-      w,
-      (
-        (let s = weigh-at (λ u. u.parts) hands port v w at in let p = b.0 in omega arith),
-        (λ h.
-            let s = weigh-at (put_by h) hands port v w at in
-            let t = weigh-at (taken_by h) hands port v w at in
-            let r = b.1 h in
-            omega (arith, weigh-append h v.put ts, weigh-append h items ts)),
-        idle-set hands port w (λ none. absurd (omega arith)) b.2,
-      ),
-      refl,
-    )
+    let w : Hand = record v { put = v.put ++ ts } in
+    (w, moved port v w items (items ++ ts) hands some_part refl (λ h. omega (arith, weigh-append h v.put ts, weigh-append h items ts)) b at, refl)
 
 pub takes : (port : ℕ) (v : Hand) → 1 ≤ v.parts → Takes Balanced port v 1 (HasTaken v)
 takes port v some_part ts items hands any few b at =
-    let w : Hand = record v { taken = v.taken ++ ts } in (
-      w,
-      (
-        (let s = weigh-at (λ u. u.parts) hands port v w at in let p = b.0 in omega arith),
-        (λ h.
-            let s = weigh-at (put_by h) hands port v w at in
-            let t = weigh-at (taken_by h) hands port v w at in
-            let r = b.1 h in
-            omega (arith, weigh-append h v.taken ts, weigh-append h ts items)),
-        idle-set hands port w (λ none. absurd (omega arith)) b.2,
-      ),
-      refl,
-    )
+    let w : Hand = record v { taken = v.taken ++ ts } in
+    (w, moved port v w (ts ++ items) items hands some_part refl (λ h. omega (arith, weigh-append h v.taken ts, weigh-append h ts items)) b at, refl)
 
 pub deals : (port : ℕ) (v : Hand) → 2 ≤ v.parts → Forks Balanced port v (one_part_less v) new_hand
 deals port v two items hands b at =
