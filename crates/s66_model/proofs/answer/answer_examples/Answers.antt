@@ -17,19 +17,18 @@ best-answer : (budget : ℕ) (tree : Tree Leaf) → TreeHolds one_load (λ at en
     TreeHolds one_load (MayEnd NoneNamed load_problem (tree_bounding tree)) [] (tree_bounding tree) → 12 ≡ least (λ v. v) (12 ∷ tree_values (ending_values load_problem) [] (tree_bounding tree)) → splits tree ≡ splits (tree_bounding tree) → splits tree ≤ budget →
     IsAnswer NoneNamed load_problem budget (answer (1 ∷ 3 ∷ 2 ∷ []) 12 12 (splits tree) tree)
 unfolding row issue_of start_of point conflict
-best-answer budget tree wholes floors bound same within =
-    record {
-      legal = order-legal one_load (1 ∷ 3 ∷ 2 ∷ []) (search rules);
-      time = refl;
-      source = omega arith;
-      wholes = wholes;
-      tree = floors;
-      bound = bound;
-      splits = same;
-      within = within;
-      spent = λ lower. absurd (omega (arith, lower));
-      first = λ same. absurd (omega (arith, same));
-    }
+best-answer budget tree wholes floors bound same within = record {
+  legal = order-legal one_load (1 ∷ 3 ∷ 2 ∷ []) (search rules);
+  time = refl;
+  source = omega arith;
+  wholes = wholes;
+  tree = floors;
+  bound = bound;
+  splits = same;
+  within = within;
+  spent = λ lower. absurd (omega (arith, lower));
+  first = λ same. absurd (omega (arith, same));
+}
 
 pub returns-clause-one_load : goal.returns-clause-one_load
 unfolding row issue_of start_of point conflict
@@ -45,19 +44,18 @@ returns-clause-one_load_split_down c = best-answer 6 (load_orders Whole) (search
 
 pub returns-clause-one_load_cut : goal.returns-clause-one_load_cut
 unfolding row issue_of start_of point conflict
-returns-clause-one_load_cut c =
-    record {
-      legal = order-legal one_load (1 ∷ 2 ∷ 3 ∷ []) (search rules);
-      time = refl;
-      source = omega arith;
-      wholes = search rules;
-      tree = search rules;
-      bound = refl;
-      splits = refl;
-      within = omega arith;
-      spent = λ lower. refl;
-      first = λ same. refl;
-    }
+returns-clause-one_load_cut c = record {
+  legal = order-legal one_load (1 ∷ 2 ∷ 3 ∷ []) (search rules);
+  time = refl;
+  source = omega arith;
+  wholes = search rules;
+  tree = search rules;
+  bound = refl;
+  splits = refl;
+  within = omega arith;
+  spent = λ lower. refl;
+  first = λ same. refl;
+}
 
 pub returns-clause-no_legal_order : goal.returns-clause-no_legal_order
 unfolding row issue_of start_of point conflict

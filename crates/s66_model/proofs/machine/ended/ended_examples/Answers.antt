@@ -64,18 +64,12 @@ returns-clause-ended_by_every_order c =
 pub returns-clause-not_ended_with_a_budget_of_2 : goal.returns-clause-not_ended_with_a_budget_of_2
 unfolding row issue_of start_of point conflict
 returns-clause-not_ended_with_a_budget_of_2 c = λ ends.
-    elim (ends (node (1 ∷ []) Open) (inr (inl refl)) refl) [
-      | inl above ↦ absurd (omega (arith, above))
-      | inr short ↦ absurd (omega (arith, short.1))
-    ]
+    elim (ends (node (1 ∷ []) Open) (inr (inl refl)) refl) [ inl above ↦ absurd (omega (arith, above)) | inr short ↦ absurd (omega (arith, short.1)) ]
 
 pub returns-clause-not_ended_while_one_is_out : goal.returns-clause-not_ended_while_one_is_out
 unfolding row issue_of start_of point conflict
 returns-clause-not_ended_while_one_is_out c = λ ends.
-    elim (ends (node [] Out) (inl refl) refl) [
-      | inl above ↦ absurd (omega (arith, above))
-      | inr short ↦ absurd (omega (arith, short.1))
-    ]
+    elim (ends (node [] Out) (inl refl) refl) [ inl above ↦ absurd (omega (arith, above)) | inr short ↦ absurd (omega (arith, short.1)) ]
 
 pub returns-clause-not_ended_by_a_whole_order_below_the_best : goal.returns-clause-not_ended_by_a_whole_order_below_the_best
 unfolding row issue_of start_of point conflict

@@ -20,8 +20,7 @@ below_22 at (inr past) = absurd past
 
 pub returns-clause-one_split_below_22 : goal.returns-clause-one_split_below_22
 unfolding row issue_of start_of point conflict
-returns-clause-one_split_below_22 c =
-    record { piece = search rules; within = omega arith; below = below_22; spent = λ has. refl }
+returns-clause-one_split_below_22 c = record { piece = search rules; within = omega arith; below = below_22; spent = λ has. refl }
 
 floor_only : (tree : Tree Terminal) → IsExpansion NoneNamed multiply_problem 17 17 1 [] tree → tree ≡ Alone (Carries (Load Multiply))
 unfolding row issue_of start_of point conflict
@@ -43,13 +42,11 @@ below_16 at (inr (inr (inr past))) = absurd past
 
 pub returns-clause-three_splits : goal.returns-clause-three_splits
 unfolding row issue_of start_of point conflict
-returns-clause-three_splits c =
-    record { piece = search rules; within = omega arith; below = below_16; spent = λ has. refl }
+returns-clause-three_splits c = record { piece = search rules; within = omega arith; below = below_16; spent = λ has. refl }
 
 pub returns-clause-not_seen_to_fall : goal.returns-clause-not_seen_to_fall
 unfolding row issue_of start_of point conflict
-returns-clause-not_seen_to_fall c =
-    record { piece = search rules; within = omega arith; below = below_22; spent = λ has. refl }
+returns-clause-not_seen_to_fall c = record { piece = search rules; within = omega arith; below = below_22; spent = λ has. refl }
 
 pub returns-clause-split_at_the_best : goal.returns-clause-split_at_the_best
 unfolding row issue_of start_of point conflict

@@ -25,11 +25,7 @@ returns-clause-events c = (
         (
           root_split Open Open Open,
           search (rules, order-legal),
-          (
-            root_split Open Open Open,
-            search rules,
-            (root_split Open Out Open, search rules, refl),
-          ),
+          (root_split Open Open Open, search rules, (root_split Open Out Open, search rules, refl)),
         ),
       ),
     ),

@@ -4,7 +4,7 @@ use Rattle.s66_isa.specs.Table.{row}
 use Rattle.s66_model.specs.Timing.{issue_of, start_of, point}
 use Rattle.s66_model.specs.Dependence.{conflict}
 use Rattle.s66_model.specs.DominatedLeaves.{Ending}
-use Rattle.s66_model.specs.Tree.{Tree, Alone, Parted, Siblings, NoMore, Unsplit, Split, splits, sibling_splits, split_at, siblings_split_at}
+use Rattle.s66_model.specs.Tree.{Tree, Alone, Parted, Siblings, Unsplit, Split, splits, sibling_splits, split_at, siblings_split_at}
 use Rattle.s66_model.specs.Ledger.{Cut}
 use Rattle.s66_model.specs.Examples.{load_problem}
 use Rattle.s66_model.specs.LedgerExamples.{node}
@@ -14,10 +14,9 @@ use Rattle.s66_model.proofs.machine.node_table.loose_split_law.Goals as goal
 
 -- if a child of the empty prefix is split, the empty prefix is too
 some-split : (ns : List ℕ) (siblings : Siblings Ending) → Among (1 ∷ []) (siblings_split_at [] ns siblings) → 1 ≤ sibling_splits siblings
-some-split [] siblings h = absurd h
-some-split (n ∷ ns) NoMore h = absurd h
 some-split (n ∷ ns) (Unsplit leaf siblings) h = some-split ns siblings h
 some-split (n ∷ ns) (Split numbers sub siblings) h = omega arith
+some-split ns siblings h = absurd h
 
 two-splits : (tree : Tree Ending) → Among (1 ∷ []) (split_at [] tree) → 2 ≤ splits tree
 two-splits (Alone leaf) h = absurd h
