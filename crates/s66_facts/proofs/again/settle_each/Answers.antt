@@ -7,12 +7,11 @@ use Rattle.s66_facts.proofs.Told.{rank-less, nth-range, seen-none, seen-cases, s
 use Rattle.s66_facts.proofs.again.settle_each.Goals as goal
 
 pub loop-position-init : goal.loop-position-init
-loop-position-init c =
-    record {
-      right = λ are. are;
-      old = λ h up. up;
-      new = λ h up n is_n seen le. absurd (seen-none c.args.direction (length c.args.graph.now.problem.block) n is_n.0 is_n.1 seen);
-    }
+loop-position-init c = record {
+  right = λ are. are;
+  old = λ h up. up;
+  new = λ h up n is_n seen le. absurd (seen-none c.args.direction (length c.args.graph.now.problem.block) n is_n.0 is_n.1 seen);
+}
 
 pub settle-done-requires-clause-n : goal.settle-done-requires-clause-n
 settle-done-requires-clause-n c =

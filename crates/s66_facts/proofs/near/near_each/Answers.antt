@@ -15,10 +15,7 @@ next-at : (marks : List Set) (position : ℕ) → get_or marks position no_set �
 next-at marks position = ap (λ i. get_or marks i no_set) (omega arith)
 
 pub loop-position-init : goal.loop-position-init
-loop-position-init c = record {
-  count = ap (λ (ms : List Set). length ms) c.new-all.ensures;
-  each = λ n low high. absurd (omega (arith, low, high));
-}
+loop-position-init c = record { count = ap (λ (ms : List Set). length ms) c.new-all.ensures; each = λ n low high. absurd (omega (arith, low, high)) }
 
 pub with_near-more-requires-clause-n : goal.with_near-more-requires-clause-n
 with_near-more-requires-clause-n c = (omega arith, omega (arith, c.loop-position-test.true, c.requires.count))
@@ -60,7 +57,4 @@ loop-position-preserved c =
 pub returns : goal.returns
 returns c =
     let end : c.loop-position.position ≡ length c.args.graph.now.problem.block = omega (arith, c.loop-position-test.false, c.loop-position.auto.position-end, c.requires.count) in
-    record {
-      count = c.loop-position.invariant.count ∙ end;
-      each = λ n is_n. c.loop-position.invariant.each n is_n.0 (omega (arith, is_n.1, end));
-    }
+    record { count = c.loop-position.invariant.count ∙ end; each = λ n is_n. c.loop-position.invariant.each n is_n.0 (omega (arith, is_n.1, end)) }

@@ -10,14 +10,10 @@ use Rattle.s66_facts.proofs.facts.Facts.take_pair.Goals as goal
 parts : (g : Ground) (bound m n : ℕ) → is_pair_taken g.problem bound (known_of g) m n ≡ true → (m ≢ n) × IsNumber g.problem m × IsNumber g.problem n × (before_in g.marks n m ≡ false)
 parts g bound m n taken = (let (differ, is_m, is_n, off, late) = pair-tests g.problem bound (known_of g) m n taken in (differ, is_m, is_n, off))
 
-pub add_pair-requires-clause-differ : goal.add_pair-requires-clause-differ
-add_pair-requires-clause-differ c = (parts c.args.self.now c.args.bound c.args.m c.args.n (sym c.is_forced.ensures ∙ c.if-not-is_forced.false)).0
-
-pub add_pair-requires-clause-m : goal.add_pair-requires-clause-m
-add_pair-requires-clause-m c = (parts c.args.self.now c.args.bound c.args.m c.args.n (sym c.is_forced.ensures ∙ c.if-not-is_forced.false)).1
-
-pub add_pair-requires-clause-n : goal.add_pair-requires-clause-n
-add_pair-requires-clause-n c = (parts c.args.self.now c.args.bound c.args.m c.args.n (sym c.is_forced.ensures ∙ c.if-not-is_forced.false)).2
-
-pub add_pair-requires-clause-turned : goal.add_pair-requires-clause-turned
-add_pair-requires-clause-turned c = (parts c.args.self.now c.args.bound c.args.m c.args.n (sym c.is_forced.ensures ∙ c.if-not-is_forced.false)).3
+pub add_pair-requires : goal.add_pair-requires
+add_pair-requires c = record {
+  differ = (parts c.args.self.now c.args.bound c.args.m c.args.n (sym c.is_forced.ensures ∙ c.if-not-is_forced.false)).0;
+  m = (parts c.args.self.now c.args.bound c.args.m c.args.n (sym c.is_forced.ensures ∙ c.if-not-is_forced.false)).1;
+  n = (parts c.args.self.now c.args.bound c.args.m c.args.n (sym c.is_forced.ensures ∙ c.if-not-is_forced.false)).2;
+  turned = (parts c.args.self.now c.args.bound c.args.m c.args.n (sym c.is_forced.ensures ∙ c.if-not-is_forced.false)).3;
+}
