@@ -12,9 +12,8 @@ made c =
     ∙ (ap (map register_latency) (take_all c.loop-write.write-index c.as_slice-write-items.result.now c.loop-write-test.false ∙ (c.as_slice-write-items.ensures.value ∙ c.writes_of.ensures))
     ∙ row-writes c.args.profile.now c.args.self.now)
 
-pub returns-clause-value : goal.returns-clause-value
-returns-clause-value c = made c
-
-pub returns-clause-at_most : goal.returns-clause-at_most
-returns-clause-at_most c =
-    subst (λ (ws : List (Reg × ℕ)). greatest (λ (w : Reg × ℕ). w.1) ws ≤ 100) (sym (made c)) (writes-most c.args.profile.now c.args.self.now)
+pub returns : goal.returns
+returns c = record {
+  value = made c;
+  at_most = subst (λ (ws : List (Reg × ℕ)). greatest (λ (w : Reg × ℕ). w.1) ws ≤ 100) (sym (made c)) (writes-most c.args.profile.now c.args.self.now);
+}
