@@ -64,10 +64,8 @@ loop-number-preserved c =
           w.if-head_of-longest.false (omega (arith, same, w.head_of.ensures, c.requires.tables.longest n low high, c.requires.value))
       | else-saturating_sub-latest-via-else-saturating_sub-latest w ↦
           absurd (omega (arith, same, w.if-saturating_sub-latest.false, c.saturating_sub.ensures, c.latest_head-latest.ensures n, c.requires.tables.longest n low high, c.requires.value))
-    ]
-    in
-    let off : heads_chain b t.numbers n ≡ false = ne_eqb (head (points t) (row_at b n) + longest_tail b n) (chain b t.numbers) past
-    in
+    ] in
+    let off : heads_chain b t.numbers n ≡ false = ne_eqb (head (points t) (row_at b n) + longest_tail b n) (chain b t.numbers) past in
     record {
       found =
           sym (first-failed (heads_chain b t.numbers) n (numbers_in c.pop_first.new.self) off)

@@ -37,8 +37,7 @@ loop-register-preserved c =
     c.has.ensures
     ∙ (ap (λ i. has c.rank-rank.result (numbers_in (get_or users i no_set))) c.index.ensures.value
     ∙ (ap (λ r. has r (numbers_in (get_or users (index_of x) no_set))) (c.rank-rank.ensures.value (longest_tail b) (length b.block) c.requires.tables.ranking high)
-    ∙ (c.requires.tables.users x c.index.ensures.digit).each n low high))
-    in
+    ∙ (c.requires.tables.users x c.index.ensures.digit).each n low high)) in
     elim c.if-has.branch [
       | then-has w ↦ omega (arith, c.loop-register.invariant, step, item, done-used b t.numbers n x (sym known ∙ w.if-has.true), w.done_of.ensures, w.max-head.ensures, w.head-is)
       | else-has w ↦ omega (arith, c.loop-register.invariant, step, item, done-unused b t.numbers n x (sym known ∙ w.if-has.false), w.head-is)
