@@ -14,8 +14,7 @@ loop-position-preserved c =
     let taken = c.loop-position.taken.items in
     let text = c.as_slice-in-loop-position.ensures.value ∙ c.whole_text-text.ensures in
     let is : n ≡ partner old taken (whole_text_of new (i + 1)) =
-    c.in-Some.ensures.some ∙ ap (λ ns. partner old ns c.as_slice-in-loop-position.result.now) c.as_slice.ensures.value ∙ ap (partner old taken) text
-    in
+    c.in-Some.ensures.some ∙ ap (λ ns. partner old ns c.as_slice-in-loop-position.result.now) c.as_slice.ensures.value ∙ ap (partner old taken) text in
     let pushed : c.push.new.self.items ≡ taken ++ n ∷ [] = c.push.ensures.items in
     let counted : length (taken ++ n ∷ []) ≡ length taken + 1 = length-append taken (n ∷ []) in
     record {
