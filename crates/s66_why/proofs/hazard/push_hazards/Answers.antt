@@ -28,12 +28,10 @@ returns c =
     let second : c.push_common-2.new.out.items ≡ out ++ raw ++ war =
     c.in_ok-push_common-2.ensures
     ∙ ap₂ (λ rs ss. c.push_common.new.out.items ++ between WriteAfterRead rs ss) (c.as_slice-3.ensures.value ∙ c.reads-read.ensures) (c.as_slice-4.ensures.value ∙ c.results-writes.ensures)
-    ∙ ap (λ hs. hs ++ war) first
-    in
+    ∙ ap (λ hs. hs ++ war) first in
     let third : c.push_common-3.new.out.items ≡ out ++ raw ++ war ++ waw =
     c.in_ok-push_common-3.ensures
     ∙ ap₂ (λ rs ss. c.push_common-2.new.out.items ++ between WriteAfterWrite rs ss) (c.as_slice-5.ensures.value ∙ c.results-written.ensures) (c.as_slice-6.ensures.value ∙ c.results-writes.ensures)
-    ∙ ap (λ hs. hs ++ waw) second
-    in
+    ∙ ap (λ hs. hs ++ waw) second in
     IfOk-equal c.push_memory_hazard.result _ _ _ c.push_memory_hazard.ensures
     (ap (λ hs. hs ++ memory) (third ∙ ap (λ hs. hs ++ waw) (append_assoc out raw war) ∙ append_assoc out (raw ++ war) waw) ∙ append_assoc out (raw ++ war ++ waw) memory)

@@ -11,8 +11,7 @@ loop-position-preserved c =
     let n : length (instrs_of block) - i ≡ suc (length (instrs_of block) - (i + 1)) = omega (arith, c.loop-position-test.true, c.count-position-end.ensures.value) in
     let next : suc (i + 1) ≡ i + 1 + 1 = omega arith in
     let step : greatest size (rising (length (instrs_of block) - i) (i + 1)) ≡ max (size (i + 1)) (greatest size (rising (length (instrs_of block) - (i + 1)) (i + 1 + 1))) =
-    ap (λ k. greatest size (rising k (i + 1))) n ∙ ap (λ k. max (size (i + 1)) (greatest size (rising (length (instrs_of block) - (i + 1)) k))) next
-    in
+    ap (λ k. greatest size (rising k (i + 1))) n ∙ ap (λ k. max (size (i + 1)) (greatest size (rising (length (instrs_of block) - (i + 1)) k))) next in
     let same : c.len.result ≡ size (i + 1) = omega (arith, c.len.ensures, ap (λ (xs : List ℕ). length xs) c.text.ensures.value) in
     record {
       value = omega (arith, c.max-width.ensures, same, step, c.loop-position.invariant.value);

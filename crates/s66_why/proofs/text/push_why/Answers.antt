@@ -22,8 +22,7 @@ own : (block : Block) (b : Problem) (ns : List ℕ) → b.block ≡ instrs_of bl
 own block b ns is legal = each-among (IsOf block) ns (λ i d lt. let range = legal-range b.block ns legal i d lt in (range.0, omega (arith, range.1, ap length is)))
 
 few-numbers : (b : Problem) (ns : List ℕ) (ps : List Point) → ps ≡ reverse (points_of b ns) → length ps ≤ BLOCK_LIMIT → length ns ≤ BLOCK_LIMIT
-few-numbers b ns ps is few =
-    omega (arith, few, ap (λ (u : List Point). length u) is, length-reverse (points_of b ns), points_after-length b [] ns)
+few-numbers b ns ps is few = omega (arith, few, ap (λ (u : List Point). length u) is, length-reverse (points_of b ns), points_after-length b [] ns)
 
 pub push_all_lines-requires-clause-numbers : goal.push_all_lines-requires-clause-numbers
 push_all_lines-requires-clause-numbers c =
