@@ -14,15 +14,13 @@ mistake-requires c =
     let (words, is) = c.requires in
     name-known c.args.matches.now words _ is c.in-Some.ensures.name
 
-pub command_by-requires-clause-named : goal.command_by-requires-clause-named
-command_by-requires-clause-named c =
+pub command_by-requires : goal.command_by-requires
+command_by-requires c =
     let (words, is) = c.requires in
-    name-known c.args.matches.now words _ is c.in-Some.ensures.name
-
-pub command_by-requires-clause-found : goal.command_by-requires-clause-found
-command_by-requires-clause-found c =
-    let (words, is) = c.requires in
-    (words, found-by c.args.matches.now words (found_of c.in-Some.given.now) is c.in-Some.ensures.rows)
+    record {
+      named = name-known c.args.matches.now words _ is c.in-Some.ensures.name;
+      found = (words, found-by c.args.matches.now words (found_of c.in-Some.given.now) is c.in-Some.ensures.rows);
+    }
 
 pub returns-in-None : goal.returns-in-None
 returns-in-None c = λ words is.

@@ -10,17 +10,14 @@ asked-requires g c =
     let words = map g.S.AsStr.text c.args.words.now in
     (words, taken c.in-Ok.matches (app_of c.in_ok-program.field-0) words c.in_ok-program.ensures.app c.in-Ok.ensures.kinds c.in-Ok.ensures.matches)
 
-pub returns-in-Ok-clause-ok : goal.returns-in-Ok-clause-ok
-returns-in-Ok-clause-ok g c =
+pub returns-in-Ok : goal.returns-in-Ok
+returns-in-Ok g c =
     let words = map g.S.AsStr.text c.args.words.now in
     let is = taken c.in-Ok.matches (app_of c.in_ok-program.field-0) words c.in_ok-program.ensures.app c.in-Ok.ensures.kinds c.in-Ok.ensures.matches in
-    MatchResult-weaker c.asked.result (c.asked.ensures words is) (λ _ asks. asks) (λ _ _. tt)
-
-pub returns-in-Ok-clause-err : goal.returns-in-Ok-clause-err
-returns-in-Ok-clause-err g c =
-    let words = map g.S.AsStr.text c.args.words.now in
-    let is = taken c.in-Ok.matches (app_of c.in_ok-program.field-0) words c.in_ok-program.ensures.app c.in-Ok.ensures.kinds c.in-Ok.ensures.matches in
-    MatchResult-weaker c.asked.result (c.asked.ensures words is) (λ _ _. tt) (λ _ refuses. refuses)
+    record {
+      ok = MatchResult-weaker c.asked.result (c.asked.ensures words is) (λ _ asks. asks) (λ _ _. tt);
+      err = MatchResult-weaker c.asked.result (c.asked.ensures words is) (λ _ _. tt) (λ _ refuses. refuses);
+    }
 
 pub returns-in-Err-clause-err : goal.returns-in-Err-clause-err
 returns-in-Err-clause-err g c =

@@ -1,4 +1,4 @@
-use Rattle.std.proofs.Common.{◌≡◌, ◌∙◌, ◌<◌, ◌≤◌, ap, arith, false, Bool, List, [], ◌∷◌, Option, None, Some, get_or, length, map, option_map, refl, sym}
+use Rattle.std.proofs.Common.{◌≡◌, ◌∙◌, ◌<◌, ◌≤◌, ap, arith, false, Bool, List, ◌∷◌, Option, None, Some, get_or, length, map, option_map, refl, sym}
 use Rattle.std.specs.Option.{option_map_or}
 use Rattle.s66_command.specs.Rows.{SubcommandRow, in_row}
 use Rattle.s66_command.specs.Usage.{Subcommand, Text, go_deep, is_deep, subcommand_named}
@@ -15,15 +15,13 @@ deep-row None = refl
 deep-row (Some r) = refl
 
 few-words : {A : Type 0} (text : A → Text) (words : List A) → length words < 2 → false ≡ go_deep (map text words)
-few-words text [] few = refl
-few-words text (program ∷ []) few = refl
 few-words text (program ∷ second ∷ more) few = absurd (omega arith)
+few-words text words few = refl
 
 by-second : {A : Type 0} (text : A → Text) (words : List A) (second : A) (name : Text) (row : Option SubcommandRow) → 2 ≤ length words → second ≡ get_or words 1 second →
     name ≡ text second → option_map in_row row ≡ subcommand_named name → is_deep_row row ≡ go_deep (map text words)
-by-second text [] second name row many at named found = absurd (omega arith)
-by-second text (program ∷ []) second name row many at named found = absurd (omega arith)
 by-second text (program ∷ next ∷ more) second name row many at named found = deep-row row ∙ ap is_deep_found (found ∙ ap subcommand_named (named ∙ ap text at))
+by-second text words second name row many at named found = absurd (omega arith)
 
 pub returns-in_default : goal.returns-in_default
 returns-in_default g c = few-words g.S.AsStr.text c.args.words.now c.in_default.len_below
