@@ -34,14 +34,11 @@ loop-line-preserved c =
     subst (λ lines. Finishes c.loop-line.printed lines all)
     (written-line inside off here marks c.loop-line.rest.now line more c.in-Some.ensures.line is_here
     ∙ ap (λ rs. between inside here rs ++ Kept here flag ∷ rest) (sym c.first_reasons.ensures))
-    c.loop-line.invariant.complete
-    in
+    c.loop-line.invariant.complete in
     let after_between : Finishes c.push_between.new.self (kept ++ rest) all =
-    completes-grown c.loop-line.printed c.push_between.new.self (between inside here reasons) (kept ++ rest) all c.in_ok-push_between.ensures before
-    in
+    completes-grown c.loop-line.printed c.push_between.new.self (between inside here reasons) (kept ++ rest) all c.in_ok-push_between.ensures before in
     let after_line : Finishes c.push_line.new.self rest all =
-    completes-grown c.push_between.new.self c.push_line.new.self kept rest all (c.in_ok-push_line.ensures flag.alone) after_between
-    in
+    completes-grown c.push_between.new.self c.push_line.new.self kept rest all (c.in_ok-push_line.ensures flag.alone) after_between in
     let ends = c.in_ok-push_between.ensures.ends in
     let one_end = between-one_end inside here reasons in
     let no_end = (c.in_ok-push_line.ensures flag.alone).ends in
