@@ -13,20 +13,15 @@ loop-victim-preserved c =
     let i = c.loop-victim.invariant in
     let popped = placed-pop c.loop-victim.members c.args.worker c.index-members-worker.result c.pop.new.self c.pop.result (omega arith) c.pop.ensures.items i.placed in
     let seats = c.leave_lane.ensures.seats ∙ (seats-set _ _ _ c.index-members-worker.result refl ∙ i.seats) in
-    record {
-      count = count-seats _ _ seats;
-      seats = seats;
-      placed = placed-same _ _ c.leave_lane.ensures.lanes c.leave_lane.ensures.victims popped.0;
-    }
+    record { count = count-seats _ _ seats; seats = seats; placed = placed-same _ _ c.leave_lane.ensures.lanes c.leave_lane.ensures.victims popped.0 }
 
 pub loop-victim-smaller : goal.loop-victim-smaller
 loop-victim-smaller c =
     let one : length (option_to_list c.pop.result) ≡ 1 = ap (λ (o : Option VictimOf). length (option_to_list o)) c.in-Some.is in
     fewer-at c.loop-victim.members c.args.worker c.index-members-worker.result c.pop.new.self _ (omega arith) (omega (arith, c.pop.ensures.len)) c.leave_lane.ensures.victims
 
-pub returns-clause-seats : goal.returns-clause-seats
-returns-clause-seats c = seats-set _ _ _ c.index-members-worker.result refl ∙ c.loop-victim.invariant.seats
-
-pub returns-clause-placed : goal.returns-clause-placed
-returns-clause-placed c =
-    (placed-pop c.loop-victim.members c.args.worker c.index-members-worker.result c.pop.new.self c.pop.result (omega arith) c.pop.ensures.items c.loop-victim.invariant.placed).0
+pub returns : goal.returns
+returns c = record {
+  seats = seats-set _ _ _ c.index-members-worker.result refl ∙ c.loop-victim.invariant.seats;
+  placed = (placed-pop c.loop-victim.members c.args.worker c.index-members-worker.result c.pop.new.self c.pop.result (omega arith) c.pop.ensures.items c.loop-victim.invariant.placed).0;
+}

@@ -7,7 +7,4 @@ pub returns-clause-kept : goal.returns-clause-kept
 returns-clause-kept g c =
     λ name among.
     subst (λ (m : MarkTable). (name ≡ c.args.walk.now.numbers) ⊎ Among name m.names) c.self.view_is
-    (elim (c.put_line.ensures.known name among) [
-      | inl is ↦ inl (is ∙ c.of-entry.ensures.numbers)
-      | inr before ↦ inr before
-    ])
+    (elim (c.put_line.ensures.known name among) [ inl is ↦ inl (is ∙ c.of-entry.ensures.numbers) | inr before ↦ inr before ])
