@@ -3,8 +3,7 @@ use Rattle.std.proofs.lemmas.Result.{IfOk-equal}
 use Rattle.s66_reasons.proofs.facts.push_rest.Goals as goal
 
 of-four : (o a b c d : List ℕ) → o ++ a ++ b ++ c ++ d ≡ o ++ (a ++ b ++ c ++ d)
-of-four o a b c d =
-    ap (λ xs. xs ++ c ++ d) (append_assoc o a b) ∙ ap (λ xs. xs ++ d) (append_assoc o (a ++ b) c) ∙ append_assoc o (a ++ b ++ c) d
+of-four o a b c d = ap (λ xs. xs ++ c ++ d) (append_assoc o a b) ∙ ap (λ xs. xs ++ d) (append_assoc o (a ++ b) c) ∙ append_assoc o (a ++ b ++ c) d
 
 pub returns : goal.returns
 returns c =

@@ -19,40 +19,30 @@ use Rattle.s66_reasons.proofs.Rows.{rows-end}
 use Rattle.s66_reasons.proofs.SupposedHolds.{holds-in, refuted-in}
 use Rattle.s66_reasons.proofs.laws.reasons_law.Goals as goal
 
-pub returns-clause-bounding : goal.returns-clause-bounding
-returns-clause-bounding c = λ limit d time bound at leaf is holds among.
-    let b = problem_of d in
-    let bound_is = ((granted d time bound).0 holds).1 in
-    let (may, reaches) = claimed-leaf d at leaf (faultless limit d time bound is holds).1 among in
-    let ends : end_by leaf (leaf_rows d at (Bounding leaf)) ≡ value b at leaf = rows-end d at leaf may in (
-      omega (arith, ends, reaches, bound_is),
-      λ rest legal.
-          let (begins, completes) = legal-parts b.block at rest legal in
-          omega (arith, ends, leaf-sound b at rest leaf begins completes may),
-    )
-
-pub returns-clause-next : goal.returns-clause-next
-returns-clause-next c = λ limit d time bound n is holds alone.
-    let all = faultless limit d time bound is holds in
-    let among : Among ([], AtTerminal (Factual (Next n))) (tree_placed [] d.tree) = subst (λ (t : Tree Ending). Among ([], AtTerminal (Factual (Next n))) (tree_placed [] t)) (sym alone) (inl refl) in
-    let granted_here = granted-next d [] n (right-each d [] (Factual (Next n)) all.1 among).1 in
-    let (low, high, new) = remaining-parts (problem_of d).block [] n granted_here.0 in
-    path-shown d all.0 n (low, high) bound (omega (arith, ((granted d time bound).0 holds).1, leb-true d.bound (next_value (problem_of d) (known_of d) [] n) granted_here.1))
-
-pub returns-clause-supposed : goal.returns-clause-supposed
-returns-clause-supposed c = holds-in
-
-pub returns-clause-refuted : goal.returns-clause-refuted
-returns-clause-refuted c = refuted-in
-
-pub returns-clause-no_sooner : goal.returns-clause-no_sooner
-returns-clause-no_sooner c = λ d n taken is_n. has-none_sooner d taken n is_n
-
-pub returns-clause-left : goal.returns-clause-left
-returns-clause-left c = λ limit d time bound at after ns is holds among.
-    let all = faultless limit d time bound is holds in
-    load-shown d all.0 at bound after ns (granted-each d at after ns (right-each d at (Factual (LoadFrom after ns)) all.1 among).1) (omega (arith, ((granted d time bound).0 holds).1))
-
-pub returns-clause-turned : goal.returns-clause-turned
-returns-clause-turned c = λ limit d time bound at m n is holds among.
-    granted-turned d at m n (right-each d at (Factual (Turned m n)) (faultless limit d time bound is holds).1 among).1
+pub returns : goal.returns
+returns c = record {
+  bounding = λ limit d time bound at leaf is holds among.
+      let b = problem_of d in
+      let bound_is = ((granted d time bound).0 holds).1 in
+      let (may, reaches) = claimed-leaf d at leaf (faultless limit d time bound is holds).1 among in
+      let ends : end_by leaf (leaf_rows d at (Bounding leaf)) ≡ value b at leaf = rows-end d at leaf may in (
+        omega (arith, ends, reaches, bound_is),
+        λ rest legal.
+            let (begins, completes) = legal-parts b.block at rest legal in
+            omega (arith, ends, leaf-sound b at rest leaf begins completes may),
+      );
+  next = λ limit d time bound n is holds alone.
+      let all = faultless limit d time bound is holds in
+      let among : Among ([], AtTerminal (Factual (Next n))) (tree_placed [] d.tree) = subst (λ (t : Tree Ending). Among ([], AtTerminal (Factual (Next n))) (tree_placed [] t)) (sym alone) (inl refl) in
+      let granted_here = granted-next d [] n (right-each d [] (Factual (Next n)) all.1 among).1 in
+      let (low, high, new) = remaining-parts (problem_of d).block [] n granted_here.0 in
+      path-shown d all.0 n (low, high) bound (omega (arith, ((granted d time bound).0 holds).1, leb-true d.bound (next_value (problem_of d) (known_of d) [] n) granted_here.1));
+  supposed = holds-in;
+  refuted = refuted-in;
+  no_sooner = λ d n taken is_n. has-none_sooner d taken n is_n;
+  left = λ limit d time bound at after ns is holds among.
+      let all = faultless limit d time bound is holds in
+      load-shown d all.0 at bound after ns (granted-each d at after ns (right-each d at (Factual (LoadFrom after ns)) all.1 among).1) (omega (arith, ((granted d time bound).0 holds).1));
+  turned = λ limit d time bound at m n is holds among.
+      granted-turned d at m n (right-each d at (Factual (Turned m n)) (faultless limit d time bound is holds).1 among).1;
+}
