@@ -57,15 +57,13 @@ returns-in-Some c =
       within = omega (arith, total, good.source);
       first = λ same. numbers ∙ good.first (same ∙ total);
       source = is.source;
-    }
-    in
+    } in
     let first : c.total.result ≡ total_of b best.numbers = c.total.ensures.value ∙ ap (λ (q : Problem). total_of q best.numbers) found.problem in
     let time : s.document.time ≡ c.total-2.result = ap (λ (d : Parts). d.time) shown.document in
     let bound : s.document.bound ≡ evidence.bound = ap (λ (d : Parts). d.bound) shown.document in
     let counted : splits (tree_of_lines s.document.vertices) ≡ splits (tree_of_lines evidence.vertices) = ap (λ (d : Parts). splits (tree_of_lines d.vertices)) shown.document in
     let enough : IsEnough strategy.search b (claimed s) =
-    inl (omega (arith, bound, c.bound-bound.ensures, time, total, same, first, c.if-total-bound.false), omega (arith, counted, is.splits))
-    in
+    inl (omega (arith, bound, c.bound-bound.ensures, time, total, same, first, c.if-total-bound.false), omega (arith, counted, is.splits)) in
     let made : tree_splits evidence ≤ s.splits = omega (arith, shown.splits, c.saturating_add.ensures, c.saturating_add-beside.ensures, is.made, c.ranges.made) in
     let all : 2 * s.splits ≤ 7 * strategy.search.nodes =
     omega (arith, shown.splits, c.saturating_add.ensures, c.splits.ensures, c.seek.ensures.search.2, c.saturating_add-beside.ensures, c.requires.made, c.in_ok-found.ensures.splits)

@@ -48,8 +48,7 @@ returns-in-Some c =
       within = omega (arith, c.time.ensures.value, is.source);
       first = λ same. numbers ∙ is.first (same ∙ c.time.ensures.value);
       source = c.source.ensures ∙ ap source_time for.1;
-    }
-    in
+    } in
     let time : s.document.time ≡ c.time.result = ap (λ (d : Parts). d.time) shown.document in
     let bound : s.document.bound ≡ c.args.evidence.bound = ap (λ (d : Parts). d.bound) shown.document in
     let counted : splits (tree_of_lines s.document.vertices) ≡ splits (tree_of_lines c.args.evidence.vertices) = ap (λ (d : Parts). splits (tree_of_lines d.vertices)) shown.document in
@@ -57,8 +56,7 @@ returns-in-Some c =
     elim worth [
       | inl best ↦ inl (bound ∙ best.0 ∙ sym c.time.ensures.value ∙ sym time, omega (arith, counted, best.1))
       | inr more ↦ inr (a, is, omega (arith, time, c.time.ensures.value), omega (arith, bound, more), omega (arith, shown.splits, c.saturating_add.ensures, c.splits.ensures.value, c.splits.ensures.few))
-    ]
-    in
+    ] in
     shown-claimed strategy p block candidate c.args.evidence s shown deep right enough (omega (arith, shown.splits, c.saturating_add.ensures, c.requires.made, c.ranges.beside)) (omega (arith, shown.splits, c.saturating_add.ensures, c.splits.ensures.value, is.within, beside.0))
 
 pub returns-in-None : goal.returns-in-None
