@@ -14,7 +14,4 @@ loop-position-preserved c =
     let sets = c.args.dependences.now in
     let place : i + 1 - 1 ≡ i = omega arith in
     let counted : c.count-sum.result ≡ length (get_or sets i []) = c.count-sum.ensures ∙ (ap (λ (ns : List ℕ). length ns) c.needs.ensures ∙ ap (λ k. length (get_or sets k [])) place) in
-    record {
-      sum = omega (arith, counted, weigh-drop (λ (ns : List ℕ). length ns) sets i [] (omega arith));
-      few = omega (arith, numbers_in-few c.needs.result);
-    }
+    record { sum = omega (arith, counted, weigh-drop (λ (ns : List ℕ). length ns) sets i [] (omega arith)); few = omega (arith, numbers_in-few c.needs.result) }

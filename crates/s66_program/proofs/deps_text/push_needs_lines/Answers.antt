@@ -20,8 +20,7 @@ loop-position-preserved c =
     let found = numbers_in c.needs-needs.result in
     let rest = needs_lines block (rising (length block - (i + 1)) (i + 1 + 1)) in
     let needed : found ≡ needs block (i + 1) =
-    c.needs-needs.ensures ∙ (ap (λ (all : List (List ℕ)). get_or all (i + 1 - 1) []) c.requires ∙ needs-at block (i + 1) (omega arith) (omega arith))
-    in
+    c.needs-needs.ensures ∙ (ap (λ (all : List (List ℕ)). get_or all (i + 1 - 1) []) c.requires ∙ needs-at block (i + 1) (omega arith) (omega arith)) in
     ap (λ xs. xs ++ rest) c.in_ok-push_needs_line.ensures
     ∙ (append_assoc before (needs_line (i + 1) found) rest
     ∙ (ap (λ ns. before ++ (needs_line (i + 1) ns ++ rest)) needed

@@ -21,6 +21,5 @@ returns-else-style c = λ strategy p block for.
       | else-style-via-then-style+else-keeps_order w ↦
           ap₂ (λ x y. x && y) w.if-style.true (sym (w.keeps_order.ensures ∙ ap (rise_from 1) (w.as_slice.ensures.value ∙ ap (λ (v : Placed). v.order) placed)) ∙ w.if-keeps_order.false)
       | else-style-via-else-style w ↦ ap (λ x. x && rise_from 1 a.order) w.if-style.false
-    ]
-    in
+    ] in
     ap Some (c.placing-placed.ensures strategy p block for) ∙ sym (ap (λ b. if b then None else Some (placed_by p c.args.style.trace block a)) prints)

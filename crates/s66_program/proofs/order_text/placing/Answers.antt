@@ -19,8 +19,7 @@ returns c =
     elim c.if-trace.branch [
       | then-trace w ↦ w.result-is ∙ ap Some w.splits.ensures ∙ sym (ap (λ b. if b then Some a.splits else None) w.if-trace.true)
       | else-trace w ↦ w.result-is ∙ sym (ap (λ b. if b then Some a.splits else None) w.if-trace.false)
-    ]
-    in
+    ] in
     let found : Placed = record { order = c.in-Ok.order.items; source = c.source.result; time = c.time.result; bound = c.bound.result; splits = c.if-trace.result } in
     λ strategy p block for.
     same-placed found (placed_by p trace block a) (c.in-Ok.ensures.0 ∙ c.numbers.ensures.value ∙ ap (λ (o : Ordered). o.numbers) (c.order.ensures strategy p block for))

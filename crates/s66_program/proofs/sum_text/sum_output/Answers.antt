@@ -81,18 +81,14 @@ returns g c =
     let found : c.as_slice-found.result.now ≡ ps = c.as_slice-found.ensures.value ∙ is in
     let rows : c.in_ok-rows.rows.items ≡ rows_of (before only) (shown only blocks) ps =
     c.in_ok-rows.ensures ∙ ap (rows_of c.blocks_before-before.result c.shown-blocks.result.now) found
-    ∙ ap₂ (λ n bs. rows_of n bs ps) c.blocks_before-before.ensures.value c.shown-blocks.ensures
-    in
+    ∙ ap₂ (λ n bs. rows_of n bs ps) c.blocks_before-before.ensures.value c.shown-blocks.ensures in
     let orders : record { before = c.blocks_before-before.result; blocks = c.shown-blocks.result.now; found = c.as_slice-found.result.now } ≡ orders_of only (shown only blocks) ps =
-    rw (c.blocks_before-before.ensures.value, c.shown-blocks.ensures, found) refl
-    in
+    rw (c.blocks_before-before.ensures.value, c.shown-blocks.ensures, found) refl in
     let loops : c.as_slice.result.now ≡ loops_of (orders_of only (shown only blocks) ps) source =
-    c.as_slice.ensures.value ∙ c.in_ok-loops.ensures ∙ ap (λ (o : Orders). loops_of o source) orders
-    in
+    c.as_slice.ensures.value ∙ c.in_ok-loops.ensures ∙ ap (λ (o : Orders). loops_of o source) orders in
     let names : c.as_slice-2.result.now ≡ entries_of source = c.as_slice-2.ensures.value ∙ c.in_ok-entries.ensures in
     let said : IsSumText p style (loops_of (orders_of only (shown only blocks) ps) source) (entries_of source) (rows_of (before only) (shown only blocks) ps) text =
     subst (λ (xs : List Row). IsSumText p style (loops_of (orders_of only (shown only blocks) ps) source) (entries_of source) xs text) rows
     (subst (λ (names : List (List ℕ)). IsSumText p style (loops_of (orders_of only (shown only blocks) ps) source) names c.in_ok-rows.rows.items text) names
-    (subst (λ (ls : List (Option Loop)). IsSumText p style ls c.as_slice-2.result.now c.in_ok-rows.rows.items text) loops c.in_ok-text.ensures))
-    in
+    (subst (λ (ls : List (Option Loop)). IsSumText p style ls c.as_slice-2.result.now c.in_ok-rows.rows.items text) loops c.in_ok-text.ensures)) in
     (blocks, c.blocks-2.ensures, (answers, are, said, ends))

@@ -30,8 +30,7 @@ returns-then-as_found-clause-value c =
     let found : block_after c.args.as_found q (slice_get c.args.self.now.blocks place) (slice_get c.args.self.now.found place) ≡ parcel_after (instrs_of block) q p.order =
     ap (λ (o : Orders). block_after c.args.as_found q (slice_get o.blocks place) (slice_get o.found place)) (sym c.self.view_is)
     ∙ ap₂ (block_after c.args.as_found q) (slice_get_read c.self.inside.blocks.now _ place block refl within at) (slice_get_read c.self.inside.found.now _ place p refl below placed)
-    ∙ ap (λ t. block_after t q (Some block) (Some p)) c.if-as_found.true
-    in
+    ∙ ap (λ t. block_after t q (Some block) (Some p)) c.if-as_found.true in
     c.parcel_after.ensures.value ∙ ap (parcel_after (instrs_of block) q) (c.as_slice.ensures.value ∙ ap (λ (p : Placed). p.order) c.found.view_is) ∙ sym found
 
 pub returns-else-as_found-clause-value : goal.returns-else-as_found-clause-value
@@ -45,6 +44,5 @@ returns-else-as_found-clause-value c =
     let found =
     ap (λ (o : Orders). block_after c.args.as_found q (slice_get o.blocks place) (slice_get o.found place)) (sym c.self.view_is)
     ∙ ap₂ (block_after c.args.as_found q) (slice_get_read c.self.inside.blocks.now _ place block refl within at) (slice_get_read c.self.inside.found.now _ place p refl below placed)
-    ∙ ap (λ t. block_after t q (Some block) (Some p)) c.if-as_found.false
-    in
+    ∙ ap (λ t. block_after t q (Some block) (Some p)) c.if-as_found.false in
     c.parcel_after-else-as_found.ensures.value ∙ ap (parcel_after (instrs_of block) q) (c.numbers.ensures.value ∙ c.source.ensures.numbers) ∙ sym found
