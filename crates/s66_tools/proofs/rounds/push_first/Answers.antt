@@ -23,5 +23,4 @@ loop-position-preserved c =
     }
 
 pub returns-clause-count : goal.returns-clause-count
-returns-clause-count c =
-    omega (arith, ap (length {A = ℕ}) c.loop-position.invariant.numbers, length-rising c.loop-position.position 1)
+returns-clause-count c = omega (arith, ap (length {A = ℕ}) c.loop-position.invariant.numbers, length-rising c.loop-position.position 1)
