@@ -64,10 +64,6 @@ pub when-high : (test : Bool) (o : Option ℕ) (w : ℕ) → test ≡ true → w
 when-high true o w is high = high
 when-high false o w is high = absurd (true≢false (sym is))
 
-pub only_if-high : (test : Bool) → test ≡ true → 0 < height (only_if test 0)
-only_if-high true is = omega arith
-only_if-high false is = absurd (true≢false (sym is))
-
 -- an option between two heights
 pub between : (o p : Option ℕ) → ((w : ℕ) → o ≡ Some w → w < height p) → height o ≤ height p
 between None p each = omega arith

@@ -103,7 +103,6 @@ module _ (b : Problem) (before after : List Set) (count : length before ≡ leng
                   ∙ sym (and_left (is_in before m && is_in before n) (has m (numbers_in (at before n))) (and_right (is_in before m) (is_in before n) off))
               | inl is_n ↦
                   let (low_m, high_m) = and_parts (leb 1 m) (leb m (length before)) is_m in
-                  let (low_n, high_n) = and_parts (leb 1 n) (leb n (length before)) is_n in
                   rw (same n ∙ is_n, same m ∙ is_m) (each m (leb-true 1 m low_m) (leb-true m (length before) high_m) n)
             ]
       ]

@@ -1,12 +1,7 @@
 -- The numbers of a block that are left, and whether one of them passes a test.
-use Rattle.std.proofs.Common.{ℕ, ◌+◌, ◌-◌, ◌≡◌, ◌≤◌, ◌<◌, ◌∙◌, Bool, true, false, refl, ap, arith}
+use Rattle.std.proofs.Common.{ℕ, ◌+◌, ◌-◌, ◌≡◌, ◌<◌, ◌∙◌, Bool, true, false, refl, ap}
 use Rattle.s66_isa.specs.Lists.{some_of, rising}
 use Rattle.s66_isa.proofs.Lists.{rising-next}
-
-pub some-end : (test : ℕ → Bool) (n i : ℕ) → n ≤ i → some_of test (rising (n - i) (i + 1)) ≡ false
-some-end test n i le =
-    let none : n - i ≡ 0 = omega arith in
-    ap (λ k. some_of test (rising k (i + 1))) none
 
 pub some-here : (test : ℕ → Bool) (n i : ℕ) → i < n → test (i + 1) ≡ true → some_of test (rising (n - i) (i + 1)) ≡ true
 some-here test n i lt is = ap (some_of test) (rising-next n i lt) ∙ rw is refl

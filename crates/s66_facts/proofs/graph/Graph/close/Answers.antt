@@ -24,7 +24,6 @@ invariant_of-result c =
     let count : length marks ≡ length block = c.before_each-before.ensures.count ∙ ap (λ (is : List Instr). length is) (sym copied) in
     let closed : IsClosedUpTo block marks (length block) = subst (λ (is : List Instr). IsClosedUpTo is marks (length is)) (sym copied) c.before_each-before.ensures.closed in
     let after = c.turned-after.result.items in
-    let before-slice : c.as_slice.result.now ≡ marks = c.as_slice.ensures.value in
     let count_after : length after ≡ length block = c.turned-after.ensures.count ∙ (ap (λ (ms : List Set). length ms) c.as_slice-2.ensures.value ∙ count) in
     let each : (n : ℕ) → 1 ≤ n → n ≤ length marks → (m : ℕ) → has m (numbers_in (get_or after (n - 1) no_set)) ≡ before_in marks n m =
     subst (λ (ms : List Set). (n : ℕ) → 1 ≤ n → n ≤ length ms → (m : ℕ) → has m (numbers_in (get_or after (n - 1) no_set)) ≡ before_in ms n m) c.as_slice-2.ensures.value c.turned-after.ensures.each in
