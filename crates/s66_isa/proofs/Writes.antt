@@ -62,11 +62,11 @@ pub writes-most : (p : Profile) (n : Instr) → greatest (λ (w : Reg × ℕ). w
 writes-most p n = omega (arith, pairs-most (hold_of p n.op.code) p.load (held_registers n) (loaded_registers (memory_of n) n), hold_range p n.op.code, p.greatest.9)
 
 -- only a load references memory in this way, and it holds its address alone
-pub is-load : (set low : Bool) → cond set (cond low memory.Load memory.Store) memory.None ≡ memory.Load → set ≡ true
+is-load : (set low : Bool) → cond set (cond low memory.Load memory.Store) memory.None ≡ memory.Load → set ≡ true
 is-load true low h = refl
 is-load false low h = absurd (true≢false (sym (ap touches h)))
 
-load-holds : (n : Instr) → memory_of n ≡ memory.Load → held_registers n ≡ a_reg n.i ∷ []
+pub load-holds : (n : Instr) → memory_of n ≡ memory.Load → held_registers n ≡ a_reg n.i ∷ []
 load-holds n h =
     let set = (leb 0o50 n.op.code && ltb n.op.code 0o60) && ltb 0 n.i in
     let parts = and_parts (leb 0o50 n.op.code && ltb n.op.code 0o60) (ltb 0 n.i) (is-load set (ltb n.i 6) h) in

@@ -1,6 +1,5 @@
 -- Two results of an instruction in the same register come equally late, so that either may stand for both on a path.
-use Rattle.std.proofs.Common.{ℕ, ◌≡◌, ◌∙◌, ◌&&◌, true, false, true≢false, leb, ltb, List, [], ◌∷◌, ◌++◌, refl, sym, ap, subst, inl, inr, map}
-use Rattle.std.proofs.lemmas.Bool.{and_parts, leb-true, le-ltb}
+use Rattle.std.proofs.Common.{ℕ, ◌≡◌, ◌∙◌, true, false, true≢false, List, [], ◌∷◌, ◌++◌, refl, sym, ap, subst, inl, inr, map}
 use Rattle.s66_isa.specs.declared.instr.Instr.{Instr}
 use Rattle.s66_isa.specs.declared.instr.Memory.{Memory}
 use Rattle.s66_isa.specs.declared.instr.Memory.TheVariants as memory
@@ -8,7 +7,7 @@ use Rattle.s66_isa.specs.declared.profile.Profile.{Profile}
 use Rattle.s66_isa.specs.declared.reg.Reg.{Reg}
 use Rattle.s66_isa.specs.Lists.{Among}
 use Rattle.s66_isa.specs.Table.{Write, row, hold_of, held_registers, loaded_registers, memory_of, same_reg, a_reg, x_reg}
-use Rattle.s66_isa.proofs.Writes.{held_write, loaded_write, is-load}
+use Rattle.s66_isa.proofs.Writes.{held_write, loaded_write, load-holds}
 
 abbrev pub AreAlike : List Write → Type 0
 AreAlike ws = (w v : Write) → Among w ws → Among v ws → same_reg v.reg w.reg ≡ true → v.latency ≡ w.latency
@@ -21,13 +20,6 @@ held-late hold (r ∷ rs) w (inr past) = held-late hold rs w past
 
 all-held : (hold : ℕ) (rs : List Reg) → AreAlike (map (held_write hold) rs ++ [])
 all-held hold rs w v among-w among-v same = held-late hold rs v among-v ∙ sym (held-late hold rs w among-w)
-
-load-holds : (n : Instr) → memory_of n ≡ memory.Load → held_registers n ≡ a_reg n.i ∷ []
-load-holds n h =
-    let set = (leb 0o50 n.op.code && ltb n.op.code 0o60) && ltb 0 n.i in
-    let parts = and_parts (leb 0o50 n.op.code && ltb n.op.code 0o60) (ltb 0 n.i) (is-load set (ltb n.i 6) h) in
-    let (low, high) = and_parts (leb 0o50 n.op.code) (ltb n.op.code 0o60) parts.0 in
-    rw (le-ltb n.op.code 0o50 (leb-true 0o50 n.op.code low), high) refl
 
 -- an address register and what is loaded are of two banks
 of-load : (hold load : ℕ) (i : ℕ) → AreAlike (held_write hold (a_reg i) ∷ loaded_write load (x_reg i) ∷ [])
