@@ -47,7 +47,7 @@ LONGEST_BODY = 110
 # of what these find nothing is proved but that it is safe, as PROMISES.md says
 ONLY_SAFE = {"s66_deep"}
 ORDER, TOTAL, BOUND = "s66_model/LegalOrder/IsLegal", "s66_model/Timing/total_of", "s66_model/BestAndBound/IsBound"
-DOCUMENT, CLAIMED, SOURCE = "s66_cert/Document/Document", "s66_checker/Verdict/problem_of", "s66_source/Source/source_of"
+DOCUMENT, CLAIMED, SOURCE = "s66_cert/Documents/Document", "s66_checker/Verdict/problem_of", "s66_source/Source/source_of"
 # what only a run of another subcommand writes, and what of `order` follows from its law
 OTHERS = [f"s66_program/{of}Text/Is{of}Output" for of in "Time Deps Chart Why Json Page Prove Check Lint Guard Sum Compare".split()]
 OTHERS += ["s66_program/CompareText/IsPairsOutput", "s66_program/OrderText/IsOrdered", "s66_program/Remarks/AreRegions"]
@@ -59,7 +59,7 @@ TO_BELIEVE = [
     ("that no legal order takes less", [BOUND]),
     ("which block and profile a document has", [DOCUMENT, CLAIMED]),
     ("a yes of `verify` (`yes_law`)", [BOUND, DOCUMENT, CLAIMED]),
-    ("status 0 of `check` (`done_law`)", [BOUND, DOCUMENT, CLAIMED, "s66_cert/Document/IsText"]),
+    ("status 0 of `check` (`done_law`)", [BOUND, DOCUMENT, CLAIMED, "s66_cert/Documents/IsText"]),
     ("that an order keeps the meaning (`meaning_law`)", ["s66_model/Meaning/KeepsMeaning"]),
     ("status 0 of `compare` (`same_meaning_law`)", ["s66_source/Halves/halves_of", "s66_compare/Meant/IsReordered", "s66_compare/Meant/KeepsSource"]),
     ("what `time` says of a source", ["s66_program/TimeText/IsTimeOutput"]),

@@ -12,7 +12,7 @@ use Rattle.s66_isa.specs.Table.{entries, numbers}
 use Rattle.s66_isa.proofs.Lists.{least-le}
 use Rattle.s66_isa.proofs.Profiles.{entries-in-range}
 use Rattle.s66_isa.specs.declared.limits.TheConstants.{BLOCK_LIMIT, PROFILE_LIMIT}
-use Rattle.s66_line.specs.Block.{instrs_of, text_of, Block}
+use Rattle.s66_line.specs.Blocks.{instrs_of, text_of, Block}
 use Rattle.s66_model.specs.Answer.{Answer, IsAnswer, MayEnd, ending_values}
 use Rattle.s66_model.specs.Leaves.{Leaf, Whole, Chain, Load, Parcels, MayStand, IsWalk, link, floor}
 use Rattle.s66_model.specs.LegalOrder.{Completes, GoesOn, IsBeginning, IsIncomplete, IsLegal, is_ready, ready}
@@ -20,7 +20,7 @@ use Rattle.s66_model.specs.Timing.{Problem, next, points_of, row_at}
 use Rattle.s66_model.specs.Dominance.{Clamp, DominatesBy, clamp_at, no_clamp}
 use Rattle.s66_model.specs.declared.rule.Rule.{Rule}
 use Rattle.s66_model.specs.declared.rule.Rule.TheVariants.{NoneNamed, WrittenEarlier, ClampedStanding}
-use Rattle.s66_model.specs.Tree.{Tree, Alone, Parted, Siblings, NoMore, Unsplit, Split, SiblingsHold, TreeHolds, Vertex, AtTerminal, AtSplit, flat, flat_siblings, splits, tree_values}
+use Rattle.s66_model.specs.Trees.{Tree, Alone, Parted, Siblings, NoMore, Unsplit, Split, SiblingsHold, TreeHolds, Vertex, AtTerminal, AtSplit, flat, flat_siblings, splits, tree_values}
 use Rattle.s66_model.specs.DominatedLeaves.{Ending, Bounding, Dominated, Factual, DominatesByRule, EndingShows, MayBeDominated, ShowsBy}
 use Rattle.s66_model.proofs.AnswerBound.{AreReady, answer-shown, split-ready}
 use Rattle.s66_model.proofs.Beginnings.{beginning-front, length-rising}
@@ -32,7 +32,7 @@ use Rattle.s66_model.proofs.LegalOrders.{legal-order, ready-parts}
 use Rattle.s66_model.proofs.Remaining.{among-ready, legal-parts, ready-among, remaining-parts, rest-first, step-begins}
 use Rattle.s66_cert.specs.declared.limits.TheConstants.{SPLIT_LIMIT, TIME_LIMIT}
 use Rattle.s66_model.specs.Lines.{has_dominated_line}
-use Rattle.s66_cert.specs.Document.{AreIn, AreInstructions, AreNumbers, IsDocument, IsLeafLine, SiblingsFit, TreeFits, is_factual, has_dominated, has_factual, names_nodes}
+use Rattle.s66_cert.specs.Documents.{AreIn, AreInstructions, AreNumbers, IsDocument, IsLeafLine, SiblingsFit, TreeFits, is_factual, has_dominated, has_factual, names_nodes}
 use Rattle.s66_cert.specs.DocumentParts.{Parts, AreWhole, document_of, tree_of_lines}
 use Rattle.s66_answer.specs.ProvedAnswers.{IsSpelled}
 use Rattle.s66_answer.specs.Answers.{document_under, rule_of, searched, texts_of}

@@ -6,7 +6,7 @@ use Rattle.s66_isa.specs.declared.profile.Profile.{Profile}
 use Rattle.s66_isa.specs.Table.{instr_at}
 use Rattle.s66_isa.proofs.Profiles.{profile_of-entries}
 use Rattle.s66_isa.specs.declared.limits.TheConstants.{BLOCK_LIMIT}
-use Rattle.s66_line.specs.Block.{instrs_of, text_of, Block}
+use Rattle.s66_line.specs.Blocks.{instrs_of, text_of, Block}
 use Rattle.s66_line.specs.InstructionText.{Spells, instr_in_text}
 use Rattle.s66_source.specs.LeftAlone.{Reading}
 use Rattle.s66_source.specs.Source.{source_of}
@@ -18,7 +18,7 @@ use Rattle.s66_model.specs.declared.rule.Rule.{Rule}
 use Rattle.s66_model.specs.DominatedLeaves.{ShowsBy}
 use Rattle.s66_model.proofs.WrittenOrders.{block-by_numbers}
 use Rattle.s66_cert.specs.declared.limits.TheConstants.{SPLIT_LIMIT}
-use Rattle.s66_cert.specs.Document.{Document, IsDocument}
+use Rattle.s66_cert.specs.Documents.{Document, IsDocument}
 use Rattle.s66_checker.specs.TrueClaims.{IsTrueClaim}
 use Rattle.s66_checker.specs.declared.verdict.Verdict.TheVariants.{Yes}
 use Rattle.s66_checker.specs.Verdict as checker

@@ -3,7 +3,7 @@ use Rattle.std.proofs.Common.{ℕ, ◌+◌, ◌-◌, ◌≡◌, ◌<◌, ◌∙�
 use Rattle.std.proofs.lemmas.Bool.{cases_lt}
 use Rattle.s66_isa.specs.Lists.{rising}
 use Rattle.s66_isa.specs.Table.{instr_at}
-use Rattle.s66_line.specs.Block.{instrs_of, text_of, Block}
+use Rattle.s66_line.specs.Blocks.{instrs_of, text_of, Block}
 use Rattle.s66_line.specs.InstructionText.{IsTextOf}
 use Rattle.s66_answer.specs.ProvedAnswers.{IsSpelledTo}
 use Rattle.s66_answer.specs.Answers.{texts_of}

@@ -3,11 +3,11 @@ use Rattle.std.proofs.Common.{◌≡◌, ◌*◌, ◌≤◌, ◌<◌, ◌∙◌,
 use Rattle.std.proofs.lemmas.Bool.{true≢false}
 use Rattle.s66_isa.specs.declared.limits.TheConstants.{BLOCK_LIMIT}
 use Rattle.s66_isa.specs.declared.profile.Profile.{Profile}
-use Rattle.s66_line.specs.Block.{instrs_of, Block}
+use Rattle.s66_line.specs.Blocks.{instrs_of, Block}
 use Rattle.s66_model.specs.Timing.{Problem, total_of}
 use Rattle.s66_model.specs.BestAndBound.{IsBound}
 use Rattle.s66_model.specs.LegalOrder.{IsLegal}
-use Rattle.s66_cert.specs.Document.{IsDocument}
+use Rattle.s66_cert.specs.Documents.{IsDocument}
 use Rattle.s66_checker.specs.Verdict as checker
 use Rattle.s66_checker.proofs.GrantedClaims.{claim-bound, verdict-claims}
 use Rattle.s66_checker.specs.declared.verdict.Verdict.TheVariants.{Yes}

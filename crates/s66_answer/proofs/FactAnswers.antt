@@ -5,14 +5,14 @@ use Rattle.s66_isa.specs.declared.limits.TheConstants.{BLOCK_LIMIT}
 use Rattle.s66_isa.specs.declared.instr.Instr.{Instr}
 use Rattle.s66_isa.specs.declared.profile.Profile.{Profile}
 use Rattle.s66_isa.specs.Table.{numbers}
-use Rattle.s66_line.specs.Block.{instrs_of, Block}
+use Rattle.s66_line.specs.Blocks.{instrs_of, Block}
 use Rattle.s66_model.specs.Answer.{source_time}
 use Rattle.s66_model.specs.LegalOrder.{IsLegal}
 use Rattle.s66_model.specs.Timing.{Problem, total_of}
-use Rattle.s66_model.specs.Tree.{splits}
+use Rattle.s66_model.specs.Trees.{splits}
 use Rattle.s66_time.specs.TimedOrder.{TimedOrder}
 use Rattle.s66_deep.specs.Orders.{IsGood}
-use Rattle.s66_cert.specs.Document.{Document, IsDocument}
+use Rattle.s66_cert.specs.Documents.{Document, IsDocument}
 use Rattle.s66_cert.specs.DocumentParts.{Parts, document_of}
 use Rattle.s66_cert.specs.Evidence.{EvidenceOf}
 use Rattle.s66_checker.specs.Verdict.{verdict}

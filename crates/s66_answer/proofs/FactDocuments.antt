@@ -4,7 +4,7 @@ use Rattle.s66_isa.specs.declared.limits.TheConstants.{BLOCK_LIMIT, PROFILE_LIMI
 use Rattle.s66_isa.specs.declared.profile.Profile.{Profile}
 use Rattle.s66_isa.specs.Table.{entries}
 use Rattle.s66_isa.proofs.Profiles.{entries-in-range}
-use Rattle.s66_line.specs.Block.{instrs_of, Block}
+use Rattle.s66_line.specs.Blocks.{instrs_of, Block}
 use Rattle.s66_model.specs.LegalOrder.{IsLegal}
 use Rattle.s66_cert.specs.declared.limits.TheConstants.{TIME_LIMIT}
 use Rattle.s66_cert.specs.DocumentParts.{AreWhole}

@@ -2,7 +2,7 @@
 use Rattle.std.proofs.Common.{ℕ, ◌≡◌, ◌*◌, ◌≤◌, ◌∙◌, true, subst, sym}
 use Rattle.std.proofs.lemmas.Bool.{true≢false}
 use Rattle.s66_isa.specs.declared.profile.Profile.{Profile}
-use Rattle.s66_line.specs.Block.{Block}
+use Rattle.s66_line.specs.Blocks.{Block}
 use Rattle.s66_model.specs.Answer as search
 use Rattle.s66_model.specs.Timing.{Problem}
 use Rattle.s66_model.specs.declared.rule.Rule.{Rule}

@@ -4,7 +4,7 @@ use Rattle.std.specs.Option.{is_some}
 use Rattle.s66_isa.specs.declared.limits.TheConstants.{BLOCK_LIMIT}
 use Rattle.s66_isa.specs.declared.profile.Profile.{Profile}
 use Rattle.s66_isa.specs.Table.{entries, numbers}
-use Rattle.s66_line.specs.Block.{instrs_of, text_of, Block}
+use Rattle.s66_line.specs.Blocks.{instrs_of, text_of, Block}
 use Rattle.s66_model.specs.declared.options.Options.{Options}
 use Rattle.s66_model.specs.declared.rule.Rule.{Rule}
 use Rattle.s66_model.specs.declared.rule.Rule.TheVariants.{NoneNamed, ClampedStanding}
@@ -13,9 +13,9 @@ use Rattle.s66_model.specs.Answer.{source_time}
 use Rattle.s66_model.specs.DominatedLeaves.{Ending}
 use Rattle.s66_model.specs.LegalOrder.{IsLegal}
 use Rattle.s66_model.specs.Timing.{Problem, total_of}
-use Rattle.s66_model.specs.Tree.{Tree, splits}
+use Rattle.s66_model.specs.Trees.{Tree, splits}
 use Rattle.s66_moments.specs.declared.fact_line.FactStep.{FactStep}
-use Rattle.s66_cert.specs.Document.{Document, IsDocument, has_dominated}
+use Rattle.s66_cert.specs.Documents.{Document, IsDocument, has_dominated}
 use Rattle.s66_checker.specs.declared.verdict.Verdict.TheVariants.{Yes}
 use Rattle.s66_checker.specs.Verdict.{verdict}
 use Rattle.s66_command.specs.declared.strategy.Strategy.{Strategy}

@@ -3,13 +3,13 @@ use Rattle.std.specs.Prelude.{ℕ, ◌*◌, ◌≡◌, ◌≤◌, ◌⊎◌, fal
 use Rattle.s66_isa.specs.declared.limits.TheConstants.{BLOCK_LIMIT}
 use Rattle.s66_isa.specs.Table.{entries}
 use Rattle.s66_isa.specs.declared.profile.Profile.{Profile}
-use Rattle.s66_line.specs.Block.{instrs_of, Block}
+use Rattle.s66_line.specs.Blocks.{instrs_of, Block}
 use Rattle.s66_model.specs.declared.rule.Rule.TheVariants.{ClampedStanding}
 use Rattle.s66_model.specs.Answer.{source_time}
-use Rattle.s66_model.specs.Tree.{splits}
+use Rattle.s66_model.specs.Trees.{splits}
 use Rattle.s66_ledger.specs.Answers.{AnswerOf, answer_of}
 use Rattle.s66_ledger.specs.Ledgers.{LedgerOf}
-use Rattle.s66_cert.specs.Document.{IsDocument}
+use Rattle.s66_cert.specs.Documents.{IsDocument}
 use Rattle.s66_cert.specs.DocumentParts.{Parts, document_of, tree_of_lines}
 use Rattle.s66_cert.specs.Evidence.{EvidenceOf}
 use Rattle.s66_checker.specs.declared.verdict.Verdict.TheVariants.{Yes}

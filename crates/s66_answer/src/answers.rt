@@ -6,7 +6,7 @@
 //! search that made all its splits only the tree is kept meanwhile, and a faster order is put in its answer.
 
 ghost use Rattle.std.specs.Prelude.{◌≡◌, ◌≤◌, ◌+◌, ◌/◌, true, IfOk, IfSome};
-ghost use Rattle.s66_line.specs.Block.{instrs_of, Block as BlockOf};
+ghost use Rattle.s66_line.specs.Blocks.{instrs_of, Block as BlockOf};
 ghost use Rattle.s66_isa.specs.declared.profile.Profile.{Profile as ProfileOf};
 ghost use Rattle.s66_cert.specs.declared.limits.TheConstants.{TIME_LIMIT};
 ghost use Rattle.s66_command.specs.declared.strategy.Strategy.{Strategy as StrategyOf};
@@ -72,7 +72,7 @@ pub enum Found {
 impl Found {
     ghost use Rattle.std.specs.Prelude.{◌≡◌, ◌==◌, IfOk};
     ghost use Rattle.s66_isa.specs.declared.profile.Profile.{Profile as ProfileOf};
-    ghost use Rattle.s66_line.specs.Block.{instrs_of, Block as BlockOf};
+    ghost use Rattle.s66_line.specs.Blocks.{instrs_of, Block as BlockOf};
     ghost use Rattle.s66_model.specs.Answer.{source_time};
     ghost use Rattle.s66_cert.specs.DocumentParts.{document_of};
     ghost use Rattle.s66_checker.specs.Verdict.{verdict};

@@ -7,7 +7,7 @@ use Rattle.s66_isa.specs.Lists.{Among, weigh}
 use Rattle.s66_isa.specs.Table.{Reg, kind_number, numbers}
 use Rattle.s66_isa.specs.Registers.{index_of}
 use Rattle.s66_isa.specs.declared.limits.TheConstants.{BLOCK_LIMIT}
-use Rattle.s66_line.specs.Block.{Block, instrs_of}
+use Rattle.s66_line.specs.Blocks.{Block, instrs_of}
 use Rattle.s66_model.specs.Timing.{Problem, row_at}
 use Rattle.s66_model.specs.LegalOrder.{remaining, IsBeginning}
 use Rattle.s66_model.specs.Leaves.{uses, work_of}

@@ -2,7 +2,7 @@
 //! Values are in minor cycles.
 
 ghost use Rattle.std.specs.Prelude.{◌≡◌, ◌<◌, length};
-ghost use Rattle.s66_line.specs.Block.{instrs_of};
+ghost use Rattle.s66_line.specs.Blocks.{instrs_of};
 ghost use Rattle.s66_model.specs.Leaves.{floor, floor_value};
 ghost use Rattle.s66_time.specs.Ticking.{problem_of};
 ghost use Rattle.s66_bound.specs.InstructionCosts.{AreCosts};

@@ -3,7 +3,7 @@
 ghost use Rattle.std.specs.Prelude.{ℕ, List, ◌≡◌, ◌≤◌, ◌<◌, ◌+◌, ◌&&◌, ◌==◌, ◌∷◌, not, true, length};
 ghost use Rattle.s66_isa.specs.Lists.{Among};
 ghost use Rattle.s66_isa.specs.declared.limits.TheConstants.{BLOCK_LIMIT};
-ghost use Rattle.s66_line.specs.Block.{instrs_of};
+ghost use Rattle.s66_line.specs.Blocks.{instrs_of};
 ghost use Rattle.s66_model.specs.Timing.{Problem, row_at};
 ghost use Rattle.s66_model.specs.LegalOrder.{IsBeginning, is_remaining, remaining};
 ghost use Rattle.s66_model.specs.Leaves.{tail, link, is_linked, head, chain, longest_chain};

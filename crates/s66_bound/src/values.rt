@@ -4,7 +4,7 @@
 ghost use Rattle.std.specs.Prelude.{◌≡◌, ◌+◌, ◌-◌, ◌<◌, ◌≤◌, ◌^◌, true, length, max, get_or};
 ghost use Rattle.s66_isa.specs.Lists.{greatest, least};
 ghost use Rattle.s66_isa.specs.Table.{all_kinds, copies_of};
-ghost use Rattle.s66_line.specs.Block.{instrs_of};
+ghost use Rattle.s66_line.specs.Blocks.{instrs_of};
 ghost use Rattle.s66_model.specs.Timing.{row_at};
 ghost use Rattle.s66_model.specs.LegalOrder.{IsBeginning, sum_remaining};
 ghost use Rattle.s66_model.specs.Leaves.{work_of, over, chain, load, parcels, floor_value};

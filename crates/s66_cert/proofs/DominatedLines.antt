@@ -5,11 +5,11 @@ use Rattle.s66_isa.specs.Lists.{every, some_of}
 use Rattle.s66_isa.specs.declared.limits.TheConstants.{BLOCK_LIMIT}
 use Rattle.s66_model.specs.declared.rule.Rule.{Rule}
 use Rattle.s66_model.specs.declared.rule.Rule.TheVariants.{NoneNamed, ClampedStanding}
-use Rattle.s66_model.specs.Tree.{Tree, Vertex, AtTerminal, AtSplit, flat}
+use Rattle.s66_model.specs.Trees.{Tree, Vertex, AtTerminal, AtSplit, flat}
 use Rattle.s66_model.specs.DominatedLeaves.{Ending, Bounding, Dominated, Factual}
 use Rattle.s66_moments.specs.declared.fact_line.FactStep.{FactStep}
 use Rattle.s66_model.specs.Lines.{has_dominated_line}
-use Rattle.s66_cert.specs.Document.{names_nodes, is_factual, has_dominated, AreFacts, HasItsLeaves}
+use Rattle.s66_cert.specs.Documents.{names_nodes, is_factual, has_dominated, AreFacts, HasItsLeaves}
 use Rattle.s66_cert.specs.Reading.{is_allowed, first_facts}
 use Rattle.s66_model.proofs.OnceCovered.{and_true}
 use Rattle.s66_model.proofs.PushedBoth.{and_false}

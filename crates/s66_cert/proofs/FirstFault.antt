@@ -3,8 +3,8 @@ use Rattle.std.proofs.Common.{◌≡◌, ◌≤◌, ◌<◌, ◌+◌, ◌-◌, �
 use Rattle.std.proofs.lemmas.Bool.{cond-false, leb-false, leb-true, lt-leb}
 use Rattle.std.specs.Prelude.{Result, Ok, Err}
 use Rattle.s66_isa.specs.declared.limits.TheConstants.{BLOCK_LIMIT}
-use Rattle.s66_model.specs.Tree.{AtTerminal, AtSplit}
-use Rattle.s66_cert.specs.Document.{Document, IsTextWithin}
+use Rattle.s66_model.specs.Trees.{AtTerminal, AtSplit}
+use Rattle.s66_cert.specs.Documents.{Document, IsTextWithin}
 use Rattle.s66_cert.specs.Faults.{IsLine, HaveNoNewline, BeginsWithin, Begins, HasLine, IsBadLine, IsSplitTooMany, IsCut, IsFault}
 use Rattle.s66_cert.specs.Lines.{DocumentLine, Header, Profile, Block, Instruction, Time, Bound, Order, OfFact, OfTree, End, line_read}
 use Rattle.s66_cert.specs.Reading.{DocumentState, first_state, place_of_tree, with_vertex, is_leaf_of, takes_step, is_wanting, step_at, step_if, step, and_then, steps, ended, is_header, read_within, whole_lines, last_bytes}

@@ -6,12 +6,12 @@ use Rattle.std.specs.Prelude.{Result, Ok}
 use Rattle.s66_isa.specs.Lists.{every}
 use Rattle.s66_model.specs.declared.rule.Rule.{Rule}
 use Rattle.s66_model.specs.Leaves.{Whole}
-use Rattle.s66_model.specs.Tree.{Tree, Alone, Parted, Siblings, NoMore, Unsplit, Split, Vertex, AtTerminal, AtSplit, flat_siblings, flat, sibling_splits, splits}
+use Rattle.s66_model.specs.Trees.{Tree, Alone, Parted, Siblings, NoMore, Unsplit, Split, Vertex, AtTerminal, AtSplit, flat_siblings, flat, sibling_splits, splits}
 use Rattle.s66_model.specs.DominatedLeaves.{Ending, Bounding}
 use Rattle.s66_model.specs.Preorder.{SiblingsMatch, TreeMatches}
 use Rattle.s66_model.proofs.Forests.{read-flat}
 use Rattle.s66_moments.specs.declared.fact_line.FactStep.{FactStep}
-use Rattle.s66_cert.specs.Document.{names_nodes, Document, IsDocumentWithin, AreDocumentsWithin, AreInstructions, AreFactSteps, AreFacts, SiblingsFit, TreeFits}
+use Rattle.s66_cert.specs.Documents.{names_nodes, Document, IsDocumentWithin, AreDocumentsWithin, AreInstructions, AreFactSteps, AreFacts, SiblingsFit, TreeFits}
 use Rattle.s66_cert.proofs.DocumentLines.{open_lines, document_lines, documents_lines, instructions_of, steps_of, facts_of, vertices_of}
 use Rattle.s66_cert.specs.Lines.{DocumentLine, Header, Profile, Block, Instruction, Time, Bound, Order, OfFact, OfTree, End, line_bytes, IsLineInRange}
 use Rattle.s66_cert.specs.DocumentParts.{Parts, tree_of_lines}

@@ -4,14 +4,14 @@ use Rattle.s66_isa.specs.Lists.{every, some_of}
 use Rattle.s66_isa.specs.declared.limits.TheConstants.{BLOCK_LIMIT}
 use Rattle.s66_model.specs.declared.rule.Rule.{Rule}
 use Rattle.s66_model.specs.declared.rule.Rule.TheVariants.{NoneNamed, WrittenEarlier, ClampedStanding}
-use Rattle.s66_model.specs.Tree.{Tree, flat}
+use Rattle.s66_model.specs.Trees.{Tree, flat}
 use Rattle.s66_model.specs.DominatedLeaves.{Ending}
 use Rattle.s66_moments.specs.declared.fact_line.FactStep.{FactStep}
 use Rattle.s66_moments.specs.Suppositions.{supposes}
 use Rattle.s66_cert.specs.declared.version.Version.{Version}
 use Rattle.s66_cert.specs.declared.version.Version.TheVariants.{BoundsAlone, EarlierNodes, StandingNodes, FactLines, Suppositions}
 use Rattle.s66_cert.specs.Versions.{has_suppositions, version, version_rule, has_facts, may_suppose}
-use Rattle.s66_cert.specs.Document.{AreFacts, HasItsLeaves}
+use Rattle.s66_cert.specs.Documents.{AreFacts, HasItsLeaves}
 use Rattle.s66_cert.specs.Faults.{LacksSupposition, MayHead}
 use Rattle.s66_cert.specs.Fine.{AreOfVersion}
 use Rattle.s66_cert.specs.Reading.{first_facts, is_step_of}

@@ -8,7 +8,7 @@ use Rattle.s66_line.proofs.NoLineEnds.{one-line}
 use Rattle.s66_line.proofs.Wholes.{every-append}
 use Rattle.s66_model.specs.declared.rule.Rule.{Rule}
 use Rattle.s66_model.specs.Leaves.{Whole, Chain, Load, Parcels}
-use Rattle.s66_model.specs.Tree.{Tree, Alone, Parted, Siblings, NoMore, Unsplit, Split, Vertex, AtTerminal, AtSplit, flat, flat_siblings}
+use Rattle.s66_model.specs.Trees.{Tree, Alone, Parted, Siblings, NoMore, Unsplit, Split, Vertex, AtTerminal, AtSplit, flat, flat_siblings}
 use Rattle.s66_model.specs.DominatedLeaves.{Ending, Bounding, Dominated, Factual}
 use Rattle.s66_model.specs.FactLeaves.{Next, Turned, AtLine, LoadFrom}
 use Rattle.s66_moments.specs.declared.moment.Stage.TheVariants.{Issue, Start, Done, Free}
@@ -19,8 +19,8 @@ use Rattle.s66_moments.specs.declared.fact_line.FactLine.{FactLine}
 use Rattle.s66_moments.specs.declared.fact_line.FactStep.{FactStep}
 use Rattle.s66_moments.specs.declared.fact_line.FactStep.TheVariants as step
 use Rattle.s66_moments.specs.declared.fact_line.FactLine.TheVariants as fact
-use Rattle.s66_moments.specs.Known.{IsMomentWithin}
-use Rattle.s66_cert.specs.Document.{Document, IsDocumentWithin, AreDocumentsWithin, IsTextWithin, AreIn, AreInstructions, AreNumbers, IsFactLine, IsFactStep, AreFactSteps, AreFacts, IsLeafLine, SiblingsFit, TreeFits, moment_text}
+use Rattle.s66_moments.specs.KnownFacts.{IsMomentWithin}
+use Rattle.s66_cert.specs.Documents.{Document, IsDocumentWithin, AreDocumentsWithin, IsTextWithin, AreIn, AreInstructions, AreNumbers, IsFactLine, IsFactStep, AreFactSteps, AreFacts, IsLeafLine, SiblingsFit, TreeFits, moment_text}
 use Rattle.s66_isa.specs.KindNames.{kind_name}
 use Rattle.s66_cert.specs.Faults.{IsLine, HaveNoNewline}
 use Rattle.s66_cert.specs.Lines.{DocumentLine, Header, Profile, Block, Instruction, Time, Bound, Order, OfFact, OfTree, End, line_bytes, IsLineInRange}

@@ -15,7 +15,7 @@ use Rattle.s66_cert.specs.declared.version.Version.{Version}
 use Rattle.s66_cert.specs.declared.version.Version.TheVariants.{BoundsAlone, EarlierNodes, StandingNodes, FactLines, Suppositions}
 use Rattle.s66_cert.specs.Versions.{version_number}
 use Rattle.s66_model.specs.Leaves.{Whole, Chain, Load, Parcels}
-use Rattle.s66_model.specs.Tree.{AtTerminal, AtSplit}
+use Rattle.s66_model.specs.Trees.{AtTerminal, AtSplit}
 use Rattle.s66_model.specs.DominatedLeaves.{Bounding, Dominated, Factual}
 use Rattle.s66_model.specs.FactLeaves.{Next, Turned, AtLine, LoadFrom}
 use Rattle.s66_moments.specs.declared.moment.Stage.TheVariants.{Issue, Start, Done, Free}
@@ -24,8 +24,8 @@ use Rattle.s66_moments.specs.declared.moment.Moment.TheVariants.{Origin, At}
 use Rattle.s66_moments.specs.declared.moment.Moment.TheVariants as moment
 use Rattle.s66_moments.specs.declared.fact_line.FactLine.TheVariants as fact
 use Rattle.s66_moments.specs.declared.fact_line.FactStep.TheVariants as step
-use Rattle.s66_moments.specs.Known.{is_front, is_back, IsMomentWithin}
-use Rattle.s66_cert.specs.Document.{AreIn, AreNumbers, moment_text}
+use Rattle.s66_moments.specs.KnownFacts.{is_front, is_back, IsMomentWithin}
+use Rattle.s66_cert.specs.Documents.{AreIn, AreNumbers, moment_text}
 use Rattle.s66_isa.specs.KindNames.{kind_name}
 use Rattle.s66_isa.specs.declared.limits.TheConstants.{PROFILE_LENGTH, PROFILE_LIMIT}
 use Rattle.s66_cert.specs.declared.limits.TheConstants.{TIME_LIMIT, LINE_LIMIT}

@@ -2,7 +2,7 @@
 use Rattle.std.proofs.Common.{◌≡◌, ◌⊎◌, inl, inr, ℕ, zero, suc, ◌+◌, ◌<◌, ◌≤◌, List, [], ◌∷◌, length, drop, get_or, set, None, Some, refl, sym, ap, ◌∙◌, subst, arith, eq-eqb}
 use Rattle.std.proofs.lemmas.Bool.{ne_eqb, cases_lt, cases_eq}
 use Rattle.std.proofs.lemmas.List.{drop_all, get_or_default, get_or_past, length-set, get_or-set_same, get_or-set_other, length-drop}
-use Rattle.s66_model.specs.Tree.{Siblings, NoMore, Unsplit, Split, Vertex, AtTerminal, AtSplit}
+use Rattle.s66_model.specs.Trees.{Siblings, NoMore, Unsplit, Split, Vertex, AtTerminal, AtSplit}
 use Rattle.s66_model.specs.DominatedLeaves.{Ending}
 use Rattle.s66_model.specs.NodeNames.{sibling_at, node_named}
 use Rattle.s66_model.specs.Preorder.{first_siblings, later_siblings, forest}

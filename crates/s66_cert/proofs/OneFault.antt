@@ -2,7 +2,7 @@
 use Rattle.std.proofs.Common.{◌≡◌, ◌⊎◌, inl, inr, ℕ, List, refl, sym, ◌∙◌, arith}
 use Rattle.std.specs.Prelude.{Result, Ok, Err}
 use Rattle.s66_isa.specs.declared.limits.TheConstants.{BLOCK_LIMIT}
-use Rattle.s66_cert.specs.Document.{Document, IsText}
+use Rattle.s66_cert.specs.Documents.{Document, IsText}
 use Rattle.s66_cert.specs.Faults.{IsFault}
 use Rattle.s66_cert.specs.Reading.{read_of}
 use Rattle.s66_cert.specs.declared.error.CertError.{CertError}

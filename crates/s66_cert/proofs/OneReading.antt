@@ -1,7 +1,7 @@
 -- A text is read in one way.
 use Rattle.std.proofs.Common.{◌≡◌, ◌<◌, ◌^◌, ◌+◌, ℕ, max, List, [], ◌∷◌, ◌++◌, refl, sym, ap, ◌∙◌, arith}
 use Rattle.std.specs.Prelude.{Result, Ok}
-use Rattle.s66_cert.specs.Document.{Document, IsDocumentWithin, IsTextWithin, document_text, documents_text}
+use Rattle.s66_cert.specs.Documents.{Document, IsDocumentWithin, IsTextWithin, document_text, documents_text}
 use Rattle.s66_cert.specs.declared.error.CertError.{CertError}
 use Rattle.s66_cert.proofs.RoundTrip.{read-again}
 use Rattle.s66_cert.proofs.InRange.{wide-documents}

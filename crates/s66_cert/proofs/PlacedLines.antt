@@ -2,11 +2,11 @@
 use Rattle.std.proofs.Common.{◌≡◌, ℕ, zero, suc, ◌+◌, ◌-◌, ◌<◌, ◌≤◌, List, [], ◌∷◌, ◌++◌, length, drop, slice_get, None, Some, refl, sym, ap, ◌∙◌, arith, length-append}
 use Rattle.std.proofs.lemmas.List.{drop_all, length-drop}
 use Rattle.s66_isa.specs.declared.limits.TheConstants.{BLOCK_LIMIT}
-use Rattle.s66_model.specs.Tree.{Tree, Alone, Parted, Siblings, NoMore, Unsplit, Split, Vertex, AtTerminal, AtSplit, flat_siblings}
+use Rattle.s66_model.specs.Trees.{Tree, Alone, Parted, Siblings, NoMore, Unsplit, Split, Vertex, AtTerminal, AtSplit, flat_siblings}
 use Rattle.s66_model.specs.DominatedLeaves.{Ending}
 use Rattle.s66_model.specs.Preorder.{first_siblings, later_siblings, forest}
 use Rattle.s66_model.proofs.Forests.{flat-forest}
-use Rattle.s66_cert.specs.Document.{siblings_placed, tree_placed}
+use Rattle.s66_cert.specs.Documents.{siblings_placed, tree_placed}
 use Rattle.s66_cert.specs.DocumentParts.{tree_of_lines}
 use Rattle.s66_cert.specs.NodePlaces.{trees_from, IsEnd, tree_at, placed_at, IsBelow, IsLineAt}
 

@@ -6,11 +6,11 @@ use Rattle.s66_isa.specs.declared.limits.TheConstants.{BLOCK_LIMIT}
 use Rattle.s66_cert.specs.declared.version.Version.{Version}
 use Rattle.s66_cert.specs.declared.version.Version.TheVariants.{BoundsAlone}
 use Rattle.s66_model.specs.Leaves.{Whole}
-use Rattle.s66_model.specs.Tree.{AtTerminal}
+use Rattle.s66_model.specs.Trees.{AtTerminal}
 use Rattle.s66_model.specs.DominatedLeaves.{Bounding}
 use Rattle.s66_line.specs.InstructionText.{IsInstruction}
 use Rattle.s66_line.proofs.InstructionTexts.{instruction}
-use Rattle.s66_cert.specs.Document.{Document, text_headed, documents_text}
+use Rattle.s66_cert.specs.Documents.{Document, text_headed, documents_text}
 use Rattle.s66_cert.specs.Examples.{standard_numbers}
 use Rattle.s66_cert.specs.Faults.{HaveNoNewline, BeginsWithin}
 use Rattle.s66_line.specs.Fields.{with_newlines}

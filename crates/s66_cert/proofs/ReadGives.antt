@@ -3,7 +3,7 @@ use Rattle.std.proofs.Common.{ℕ, List, refl}
 use Rattle.std.specs.Prelude.{Result, Ok, Err, IfOk}
 use Rattle.s66_isa.specs.declared.limits.TheConstants.{BLOCK_LIMIT}
 use Rattle.s66_cert.specs.declared.limits.TheConstants.{SPLIT_LIMIT}
-use Rattle.s66_cert.specs.Document.{Document, IsText}
+use Rattle.s66_cert.specs.Documents.{Document, IsText}
 use Rattle.s66_cert.specs.Reading.{read_of}
 use Rattle.s66_cert.specs.Reads.{RefusesText}
 use Rattle.s66_cert.specs.DocumentReader.{Gives}

@@ -2,7 +2,7 @@
 use Rattle.std.proofs.Common.{◌≡◌, ◌<◌, ◌^◌, ℕ, List, [], ◌++◌, map, refl, sym, ap, ◌∙◌}
 use Rattle.std.proofs.lemmas.List.{append-nil}
 use Rattle.std.specs.Prelude.{Ok}
-use Rattle.s66_cert.specs.Document.{Document, IsTextWithin}
+use Rattle.s66_cert.specs.Documents.{Document, IsTextWithin}
 use Rattle.s66_cert.proofs.DocumentLines.{documents_lines}
 use Rattle.s66_cert.specs.Faults.{HaveNoNewline}
 use Rattle.s66_line.specs.Fields.{with_newlines}

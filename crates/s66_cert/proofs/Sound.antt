@@ -9,11 +9,11 @@ use Rattle.s66_isa.specs.declared.limits.TheConstants.{BLOCK_LIMIT}
 use Rattle.s66_model.specs.declared.rule.Rule.{Rule}
 use Rattle.s66_model.specs.declared.rule.Rule.TheVariants.{NoneNamed}
 use Rattle.s66_model.specs.Leaves.{Whole}
-use Rattle.s66_model.specs.Tree.{Tree, Alone, Parted, Siblings, NoMore, Unsplit, Split, Vertex, AtTerminal, AtSplit, flat_siblings, flat, sibling_splits, splits}
+use Rattle.s66_model.specs.Trees.{Tree, Alone, Parted, Siblings, NoMore, Unsplit, Split, Vertex, AtTerminal, AtSplit, flat_siblings, flat, sibling_splits, splits}
 use Rattle.s66_model.specs.DominatedLeaves.{Ending, Bounding}
 use Rattle.s66_line.specs.InstructionText.{IsInstruction}
 use Rattle.s66_moments.specs.declared.fact_line.FactStep.{FactStep}
-use Rattle.s66_cert.specs.Document.{Document, IsDocumentWithin, AreDocumentsWithin, AreNumbers, AreInstructions, IsFactStep, AreFactSteps, AreFacts, HasItsLeaves, IsLeafLine, SiblingsFit, TreeFits, IsTextWithin, documents_text}
+use Rattle.s66_cert.specs.Documents.{Document, IsDocumentWithin, AreDocumentsWithin, AreNumbers, AreInstructions, IsFactStep, AreFactSteps, AreFacts, HasItsLeaves, IsLeafLine, SiblingsFit, TreeFits, IsTextWithin, documents_text}
 use Rattle.s66_cert.specs.Faults.{IsOpenWithin}
 use Rattle.s66_cert.specs.Lines.{DocumentLine, Header, Profile, Block, Instruction, Time, Bound, Order, OfFact, OfTree, End, line_bytes, IsLineInRange, line_read}
 use Rattle.s66_line.specs.Fields.{with_newlines}

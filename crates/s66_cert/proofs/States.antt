@@ -2,7 +2,7 @@
 use Rattle.std.proofs.Common.{◌≡◌, ℕ, suc, List, arith, eqb}
 use Rattle.std.proofs.lemmas.Bool.{cond-false, ne_eqb}
 use Rattle.s66_cert.specs.declared.version.Version.{Version}
-use Rattle.s66_cert.specs.Document.{Document}
+use Rattle.s66_cert.specs.Documents.{Document}
 use Rattle.s66_cert.specs.DocumentParts.{Parts}
 use Rattle.s66_cert.specs.Reading.{DocumentState, place_of_instruction, place_of_tree}
 use Rattle.s66_cert.specs.declared.document_place.DocumentPlace.{DocumentPlace}

@@ -4,10 +4,10 @@ use Rattle.std.proofs.lemmas.Bool.{and_parts, and_from, not-true, eqb-true}
 use Rattle.std.proofs.lemmas.List.{append-nil, map-append}
 use Rattle.std.specs.Prelude.{Option, None, Some, codes, decimal}
 use Rattle.s66_isa.specs.Lists.{every, after_blanks}
-use Rattle.s66_model.specs.Tree.{Vertex, flat}
+use Rattle.s66_model.specs.Trees.{Vertex, flat}
 use Rattle.s66_model.specs.DominatedLeaves.{Ending}
 use Rattle.s66_moments.specs.declared.fact_line.FactStep.{FactStep}
-use Rattle.s66_cert.specs.Document.{Document, vertex_line, tree_lines, instructions_text, step_line, step_lines, facts_text, text_headed, document_text, documents_text}
+use Rattle.s66_cert.specs.Documents.{Document, vertex_line, tree_lines, instructions_text, step_line, step_lines, facts_text, text_headed, document_text, documents_text}
 use Rattle.s66_cert.specs.declared.version.Version.{Version}
 use Rattle.s66_cert.specs.Versions.{version, version_number}
 use Rattle.s66_cert.specs.Faults.{IsLine, HaveNoNewline}

@@ -4,8 +4,8 @@ use Rattle.std.specs.Prelude.{◌↔◌, IsTrue, false}
 use Rattle.std.proofs.lemmas.List.{append-nil}
 use Rattle.s66_isa.specs.declared.limits.TheConstants.{BLOCK_LIMIT}
 use Rattle.s66_model.specs.DominatedLeaves.{Ending}
-use Rattle.s66_model.specs.Tree.{Tree, Alone, Parted, Siblings, NoMore, Unsplit, Split, Vertex, AtTerminal, AtSplit, flat, flat_siblings, splits as count_of}
-use Rattle.s66_cert.specs.Document.{SiblingsFit, TreeFits}
+use Rattle.s66_model.specs.Trees.{Tree, Alone, Parted, Siblings, NoMore, Unsplit, Split, Vertex, AtTerminal, AtSplit, flat, flat_siblings, splits as count_of}
+use Rattle.s66_cert.specs.Documents.{SiblingsFit, TreeFits}
 use Rattle.s66_cert.specs.DocumentParts.{tree_of_lines}
 use Rattle.s66_cert.specs.Fine.{Leave, split_count}
 use Rattle.s66_cert.specs.Lines.{IsVertex}

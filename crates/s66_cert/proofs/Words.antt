@@ -5,7 +5,7 @@ use Rattle.std.proofs.lemmas.List.{append-nil}
 use Rattle.std.specs.Int.{IsInRange}
 use Rattle.std.specs.Prelude.{decimal}
 use Rattle.s66_isa.specs.Lists.{every, after_blanks}
-use Rattle.s66_cert.specs.Document.{AreIn}
+use Rattle.s66_cert.specs.Documents.{AreIn}
 use Rattle.s66_cert.specs.Lines.{first_word, after_first_word, put_front, words_of, words_in, number_in, numbers_in, consed_if}
 use Rattle.s66_cert.proofs.NumberTexts.{is_other, number-again, number-is, decimal-clear}
 

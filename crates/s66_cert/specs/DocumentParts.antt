@@ -5,11 +5,11 @@ use Rattle.std.specs.declared.alloc.Global.{Global}
 use Rattle.s66_isa.specs.declared.limits.TheConstants.{BLOCK_LIMIT}
 use Rattle.s66_model.specs.declared.rule.Rule.{Rule}
 use Rattle.s66_model.specs.Leaves.{Whole}
-use Rattle.s66_model.specs.Tree.{Tree, Vertex, flat}
+use Rattle.s66_model.specs.Trees.{Tree, Vertex, flat}
 use Rattle.s66_model.specs.DominatedLeaves.{Ending, Bounding}
 use Rattle.s66_model.specs.Preorder.{read_tree}
 use Rattle.s66_moments.specs.declared.fact_line.FactStep.{FactStep}
-use Rattle.s66_cert.specs.Document.{Document, IsDocument}
+use Rattle.s66_cert.specs.Documents.{Document, IsDocument}
 
 abbrev pub facts_in : Option (Vec FactStep Global) → Option (List FactStep)
 facts_in facts = option_map (λ (steps : Vec FactStep Global). steps.items) facts

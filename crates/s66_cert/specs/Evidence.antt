@@ -2,11 +2,11 @@
 use Rattle.std.specs.Prelude.{ℕ, ◌≡◌, ◌≤◌, List, Some}
 use Rattle.s66_isa.specs.declared.limits.TheConstants.{BLOCK_LIMIT}
 use Rattle.s66_model.specs.declared.rule.Rule.TheVariants.{ClampedStanding}
-use Rattle.s66_model.specs.Tree.{Vertex, flat, splits}
+use Rattle.s66_model.specs.Trees.{Vertex, flat, splits}
 use Rattle.s66_model.specs.DominatedLeaves.{Ending}
 use Rattle.s66_moments.specs.declared.fact_line.FactStep.{FactStep}
 use Rattle.s66_cert.specs.declared.limits.TheConstants.{SPLIT_LIMIT, TIME_LIMIT}
-use Rattle.s66_cert.specs.Document.{AreFacts, HasItsLeaves, TreeFits}
+use Rattle.s66_cert.specs.Documents.{AreFacts, HasItsLeaves, TreeFits}
 use Rattle.s66_cert.specs.DocumentParts.{tree_of_lines}
 
 -- a bound, and the fact lines and the lines of a tree that are to show it

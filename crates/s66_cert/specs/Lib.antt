@@ -1,5 +1,5 @@
 pub mod Altered
-pub mod Document
+pub mod Documents
 pub mod Examples
 pub mod Faults
 pub mod Fine

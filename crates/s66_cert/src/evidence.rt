@@ -2,8 +2,8 @@
 
 ghost use Rattle.std.specs.Prelude.{◌≡◌, ◌≤◌, ◌↔◌, IsTrue};
 ghost use Rattle.s66_isa.specs.declared.limits.TheConstants.{BLOCK_LIMIT};
-ghost use Rattle.s66_model.specs.Tree.{flat, splits};
-ghost use Rattle.s66_cert.specs.Document.{TreeFits};
+ghost use Rattle.s66_model.specs.Trees.{flat, splits};
+ghost use Rattle.s66_cert.specs.Documents.{TreeFits};
 ghost use Rattle.s66_cert.specs.DocumentParts.{tree_of_lines};
 
 use crate::indexed_tree::sibling_count;
@@ -57,7 +57,7 @@ impl Model for Evidence {
 
 impl Evidence {
     ghost use Rattle.std.specs.Prelude.{◌≡◌, ◌≤◌, IfSome, IfNone};
-    ghost use Rattle.s66_model.specs.Tree.{splits};
+    ghost use Rattle.s66_model.specs.Trees.{splits};
     ghost use Rattle.s66_cert.specs.DocumentParts.{tree_of_lines};
     ghost use Rattle.s66_cert.specs.Evidence.{IsEvidence};
 

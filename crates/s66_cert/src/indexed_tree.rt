@@ -53,7 +53,7 @@ pub(crate) struct IndexedTree {
 
 impl Model for IndexedTree {
     ghost use Rattle.std.specs.Prelude.{List};
-    ghost use Rattle.s66_model.specs.Tree.{Vertex};
+    ghost use Rattle.s66_model.specs.Trees.{Vertex};
     ghost use Rattle.s66_model.specs.DominatedLeaves.{Ending};
     ghost use Rattle.s66_cert.specs.NodePlaces.{AreTreeEnds};
 

@@ -3,7 +3,7 @@
 
 ghost use Rattle.std.specs.Prelude.{ℕ, List, ◌≡◌, ◌<◌, ◌^◌, ◌⊎◌};
 ghost use Rattle.s66_isa.specs.declared.limits.TheConstants.{BLOCK_LIMIT};
-ghost use Rattle.s66_cert.specs.Document.{Document, IsDocumentWithin, IsText, IsTextWithin, document_text};
+ghost use Rattle.s66_cert.specs.Documents.{Document, IsDocumentWithin, IsText, IsTextWithin, document_text};
 ghost use Rattle.s66_cert.specs.Faults.{IsFault};
 ghost use Rattle.s66_cert.specs.declared.error.CertError.{CertError};
 

@@ -1,5 +1,5 @@
 //! Certificates: what a document claims of a block, and its text. Examples are functions that do nothing: each clause is one.
-//! Begin at `specs/Document.antt`, then `document.rt`; reading begins at `reading.rt` and `reader.rt`, printing at `printing.rt`.
+//! Begin at `specs/Documents.antt`, then `document.rt`; reading begins at `reading.rt` and `reader.rt`, printing at `printing.rt`.
 //! Whether a claim is true is for `s66_checker` to say.
 //!
 //! It promises that a text is the text of one list of documents or has a first fault (`reading_law`, `one_reading_law`), and that what

@@ -5,7 +5,7 @@ ghost use Rattle.std.specs.Str.{bytes_eq};
 ghost use Rattle.std.specs.Option.{option_map};
 ghost use Rattle.s66_isa.specs.declared.limits.TheConstants.{BLOCK_LIMIT};
 ghost use Rattle.s66_model.specs.Leaves.{Chain, Load};
-ghost use Rattle.s66_model.specs.Tree.{AtTerminal, AtSplit};
+ghost use Rattle.s66_model.specs.Trees.{AtTerminal, AtSplit};
 ghost use Rattle.s66_model.specs.DominatedLeaves.{Bounding, Dominated, Factual};
 ghost use Rattle.s66_model.specs.FactLeaves.{Next, Turned, AtLine};
 ghost use Rattle.s66_moments.specs.declared.fact_line.FactLine.TheVariants as fact;

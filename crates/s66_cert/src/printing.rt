@@ -6,7 +6,7 @@ ghost use Rattle.s66_isa.specs.Lists.{after_blanks};
 ghost use Rattle.s66_model.specs.DominatedLeaves.{Factual};
 ghost use Rattle.s66_model.specs.Lines.{fact_leaf_of, vertex_of};
 ghost use Rattle.s66_moments.specs.declared.fact_line.FactLine.TheVariants as fact;
-ghost use Rattle.s66_cert.specs.Document.{claim_lines, document_text, fact_line, facts_text, head_lines, instructions_text, leaf_line, moment_text, step_line, step_lines, tree_lines, vertex_line};
+ghost use Rattle.s66_cert.specs.Documents.{claim_lines, document_text, fact_line, facts_text, head_lines, instructions_text, leaf_line, moment_text, step_line, step_lines, tree_lines, vertex_line};
 ghost use Rattle.s66_cert.specs.DocumentParts.{document_of};
 ghost use Rattle.s66_cert.specs.Versions.{version};
 

@@ -2,7 +2,7 @@
 
 ghost use Rattle.std.specs.Prelude.{suc, false, ◌≡◌, ◌≤◌, ◌<◌, ◌+◌, ◌-◌, ◌^◌, [], length, OnOk};
 ghost use Rattle.s66_isa.specs.declared.limits.TheConstants.{BLOCK_LIMIT};
-ghost use Rattle.s66_cert.specs.Document.{names_nodes};
+ghost use Rattle.s66_cert.specs.Documents.{names_nodes};
 ghost use Rattle.s66_cert.specs.Fine.{IsFine};
 ghost use Rattle.s66_cert.specs.Lines.{IsLineInRange, IsVertex, Header, Profile, Block, Instruction, Time, Bound, Order, OfFact, OfTree, End};
 ghost use Rattle.s66_model.specs.Lines.{vertex_of};

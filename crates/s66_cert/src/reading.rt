@@ -2,7 +2,7 @@
 
 ghost use Rattle.std.specs.Prelude.{map, IfOk};
 ghost use Rattle.s66_isa.specs.declared.limits.TheConstants.{BLOCK_LIMIT};
-ghost use Rattle.s66_cert.specs.Document.{IsText};
+ghost use Rattle.s66_cert.specs.Documents.{IsText};
 ghost use Rattle.s66_cert.specs.DocumentParts.{document_of};
 ghost use Rattle.s66_cert.specs.DocumentReader.{Gives};
 ghost use Rattle.s66_cert.specs.Reading.{read_of};

@@ -7,7 +7,7 @@ ghost use Rattle.s66_isa.specs.declared.instr.Kind.TheVariants.{Multiply};
 ghost use Rattle.s66_isa.specs.declared.limits.TheConstants.{BLOCK_LIMIT};
 ghost use Rattle.s66_model.specs.declared.rule.Rule.TheVariants.{WrittenEarlier, ClampedStanding};
 ghost use Rattle.s66_model.specs.Leaves.{Chain, Load, Parcels};
-ghost use Rattle.s66_model.specs.Tree.{Alone, Parted};
+ghost use Rattle.s66_model.specs.Trees.{Alone, Parted};
 ghost use Rattle.s66_model.specs.DominatedLeaves.{Bounding, Dominated};
 ghost use Rattle.s66_model.specs.FactLeaves.{AtLine, LoadFrom};
 ghost use Rattle.s66_moments.specs.declared.moment.Stage.TheVariants.{Issue, Start};

@@ -17,7 +17,7 @@ use Rattle.s66_model.specs.LegalOrder.{IsBeginning}
 use Rattle.s66_model.specs.Digits.{HasDigits, HaveDigits}
 use Rattle.s66_model.specs.Dominance.{place_in_word, references_wait, stores_wait, free_times, Clamp, IsNoLater, IsSameSet, DominatesBy, no_clamp, Dominates, clamp_at, DominatesClamped}
 use Rattle.s66_model.proofs.LowRegisters.{OnlyLow, low-points}
-use Rattle.s66_cert.specs.Document.{Document}
+use Rattle.s66_cert.specs.Documents.{Document}
 use Rattle.s66_checker.specs.Verdict.{problem_of}
 use Rattle.s66_checker.specs.Dominating.{are_registers_no_later, are_units_no_later, is_no_later, is_same_set, is_beginning, is_ahead, dominates_by}
 use Rattle.s66_checker.proofs.GoingTo.{goes_on-Decides}

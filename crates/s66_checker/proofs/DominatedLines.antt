@@ -10,8 +10,8 @@ use Rattle.s66_model.specs.Digits.{HaveDigits}
 use Rattle.s66_model.specs.Dominance.{IsSameSet}
 use Rattle.s66_model.specs.NodeNames.{node_named}
 use Rattle.s66_model.specs.DominatedLeaves.{Ending, Bounding, Dominated, Factual, may_be_named, DominatesByRule, MayBeDominated, EndingShows}
-use Rattle.s66_model.specs.Tree.{AtTerminal}
-use Rattle.s66_cert.specs.Document.{Document, is_factual}
+use Rattle.s66_model.specs.Trees.{AtTerminal}
+use Rattle.s66_cert.specs.Documents.{Document, is_factual}
 use Rattle.s66_checker.specs.declared.verdict.Reason.TheVariants as fault
 use Rattle.s66_checker.specs.Dominating.{dominates_by}
 use Rattle.s66_checker.specs.Verdict.{problem_of, is_complete, is_early_enough, is_name, dominated_fault, line_fault}

@@ -9,8 +9,8 @@ use Rattle.s66_isa.specs.Lists.{Among}
 use Rattle.s66_model.specs.Timing.{Problem}
 use Rattle.s66_model.specs.LegalOrder.{IsLegal, is_ready, is_remaining, ready, IsBeginning, IsIncomplete}
 use Rattle.s66_model.specs.Leaves.{Leaf, Whole, Chain, Load, Parcels, value, MayStand, IsWalk, IsChain, is_linked}
-use Rattle.s66_model.specs.Tree.{LeafShows, AtSplit}
-use Rattle.s66_cert.specs.Document.{Document}
+use Rattle.s66_model.specs.Trees.{LeafShows, AtSplit}
+use Rattle.s66_cert.specs.Documents.{Document}
 use Rattle.s66_model.proofs.LegalOrders.{order-legal, legal-order}
 use Rattle.s66_model.proofs.Beginnings.{beginning-front}
 use Rattle.s66_model.proofs.Remaining.{ready-among, step-begins}

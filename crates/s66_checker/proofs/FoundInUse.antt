@@ -8,7 +8,7 @@ use Rattle.s66_isa.proofs.Lists.{cases_le}
 use Rattle.s66_model.specs.Timing.{Problem, Point, next, points_of, total_of}
 use Rattle.s66_model.specs.LegalOrder.{IsBeginning, is_remaining, remaining}
 use Rattle.s66_model.specs.Dominance.{place_in_word}
-use Rattle.s66_moments.specs.Known.{Known}
+use Rattle.s66_moments.specs.KnownFacts.{Known}
 use Rattle.s66_checker.specs.Dominating.{is_beginning, is_same_set, finds_no_later, number_finds_no_later, dominates_in_use}
 use Rattle.s66_checker.proofs.GoingTo.{goes_on-Decides}
 use Rattle.s66_checker.proofs.NoLater.{le-Decides}

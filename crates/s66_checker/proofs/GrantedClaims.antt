@@ -7,14 +7,14 @@ use Rattle.s66_model.specs.Timing.{Problem, total_of}
 use Rattle.s66_model.specs.LegalOrder.{IsLegal, IsBeginning}
 use Rattle.s66_model.specs.declared.rule.Rule.TheVariants.{ClampedStanding}
 use Rattle.s66_model.specs.BestAndBound.{IsBound}
-use Rattle.s66_model.specs.Tree.{Vertex, AtTerminal, flat}
+use Rattle.s66_model.specs.Trees.{Vertex, AtTerminal, flat}
 use Rattle.s66_model.specs.DominatedLeaves.{Ending, EndingShows}
 use Rattle.s66_model.proofs.DominatedTrees.{shown-below}
 use Rattle.s66_moments.specs.declared.fact_line.FactStep.{FactStep}
 use Rattle.s66_moments.specs.LineTrees.{ShowsByLines}
 use Rattle.s66_moments.specs.Suppositions.{standing_first, shown_by_all}
 use Rattle.s66_moments.proofs.ClosedTrees.{lines-below}
-use Rattle.s66_cert.specs.Document.{Document, IsDocument, AreFacts, HasItsLeaves, is_factual, tree_placed}
+use Rattle.s66_cert.specs.Documents.{Document, IsDocument, AreFacts, HasItsLeaves, is_factual, tree_placed}
 use Rattle.s66_checker.specs.declared.verdict.Verdict.{Verdict}
 use Rattle.s66_checker.specs.declared.verdict.Verdict.TheVariants.{Yes, No}
 use Rattle.s66_checker.specs.declared.verdict.Reason.{Reason}

@@ -16,10 +16,10 @@ use Rattle.s66_model.proofs.Remaining.{among-remaining, remaining-among}
 use Rattle.s66_moments.specs.Facts.{Fact}
 use Rattle.s66_moments.specs.Networks.{IsKnown}
 use Rattle.s66_moments.specs.InUse.{FindsNoLater, DominatesInUse}
-use Rattle.s66_moments.specs.Known.{Known, issue_at_least, start_at_least}
+use Rattle.s66_moments.specs.KnownFacts.{Known, issue_at_least, start_at_least}
 use Rattle.s66_moments.proofs.InUse.{finds-later, clamped-finds}
 use Rattle.s66_moments.proofs.Turns.{turn-comes}
-use Rattle.s66_cert.specs.Document.{Document}
+use Rattle.s66_cert.specs.Documents.{Document}
 use Rattle.s66_checker.specs.Verdict.{problem_of, known_of, node_on, is_complete, is_name_at, name_of, at_line_fault}
 use Rattle.s66_checker.proofs.DominanceTests.{clamped-Decides, document-digits}
 use Rattle.s66_checker.specs.Dominating.{dominates_by, is_beginning, is_same_set, finds_no_later, number_finds_no_later, dominates_in_use}

@@ -18,10 +18,10 @@ use Rattle.s66_moments.specs.declared.moment.Moment.{Moment}
 use Rattle.s66_moments.specs.declared.moment.Moment.TheVariants.{At, End}
 use Rattle.s66_moments.specs.Moments.{is_moment, has_stage}
 use Rattle.s66_moments.specs.Networks.{tail, soonest_path}
-use Rattle.s66_moments.specs.Known.{Known, span, arcs_of, next_value}
+use Rattle.s66_moments.specs.KnownFacts.{Known, span, arcs_of, next_value}
 use Rattle.s66_moments.proofs.KnownLines.{span-tail}
-use Rattle.s66_cert.specs.Document.{Document}
-use Rattle.s66_facts.specs.Ground.{Ground, known_of as known_in}
+use Rattle.s66_cert.specs.Documents.{Document}
+use Rattle.s66_facts.specs.BlockGround.{Ground, known_of as known_in}
 use Rattle.s66_checker.specs.Verdict.{problem_of, known_of}
 use Rattle.s66_checker.proofs.TakenLines.{shown_facts, taken-sound}
 use Rattle.s66_checker.specs.KeptKnown.{KnowsAll, AreTaken, HasTails, AreTails, is_reached, is_result_late, is_point_late}

@@ -5,18 +5,18 @@ use Rattle.s66_model.specs.declared.rule.Rule.{Rule}
 use Rattle.s66_model.specs.declared.rule.Rule.TheVariants.{ClampedStanding}
 use Rattle.s66_model.specs.Timing.{Problem}
 use Rattle.s66_model.specs.LegalOrder.{IsBeginning, is_remaining}
-use Rattle.s66_model.specs.Tree.{Vertex, AtTerminal, TreeHolds}
+use Rattle.s66_model.specs.Trees.{Vertex, AtTerminal, TreeHolds}
 use Rattle.s66_model.specs.NodeNames.{node_named}
 use Rattle.s66_model.specs.DominatedLeaves.{Ending, Bounding, Dominated, Factual, is_standing, may_be_named, DominatesByRule}
 use Rattle.s66_model.specs.FactLeaves.{Next, Turned, AtLine, LoadFrom}
 use Rattle.s66_model.proofs.TreesHold.{tree-weaken, seen-holds}
 use Rattle.s66_moments.specs.Facts.{Fact}
-use Rattle.s66_moments.specs.Known.{next_value, is_turned, is_loaded}
+use Rattle.s66_moments.specs.KnownFacts.{next_value, is_turned, is_loaded}
 use Rattle.s66_moments.specs.LineTrees.{LineEnding, is_closed, LineEndingShows, ShowsByLines}
 use Rattle.s66_moments.proofs.InUse.{clamped-in_use}
 use Rattle.s66_moments.proofs.KnownLines.{IsSound, next-too_late, turned-too_late}
 use Rattle.s66_moments.proofs.LoadLeaves.{loaded-closed}
-use Rattle.s66_cert.specs.Document.{Document}
+use Rattle.s66_cert.specs.Documents.{Document}
 use Rattle.s66_checker.specs.declared.verdict.Reason.TheVariants as fault
 use Rattle.s66_checker.specs.Dominating.{is_beginning, is_same_set, dominates_in_use}
 use Rattle.s66_checker.specs.Verdict.{problem_of, known_of, node_on, is_complete, is_name_at, name_of, at_line_fault, next_fault, turned_fault, load_from_fault, line_fault}

@@ -6,13 +6,13 @@ use Rattle.s66_isa.proofs.Lists.{among-rising, got-among, split-among, filter-am
 use Rattle.s66_isa.specs.declared.instr.Instr.{Instr}
 use Rattle.s66_isa.specs.Table.{numbers}
 use Rattle.s66_model.specs.LegalOrder.{is_ready, ready}
-use Rattle.s66_model.specs.Tree.{Tree, Alone, Parted, Siblings, NoMore, Unsplit, Split, Vertex, SiblingsHold, TreeHolds}
+use Rattle.s66_model.specs.Trees.{Tree, Alone, Parted, Siblings, NoMore, Unsplit, Split, Vertex, SiblingsHold, TreeHolds}
 use Rattle.s66_model.specs.NodeNames.{terminal_at, sibling_at, node_named}
 use Rattle.s66_model.specs.DominatedLeaves.{Ending, Bounding, Dominated, Factual, is_standing}
 use Rattle.s66_model.specs.FactLeaves.{Next, Turned, AtLine, LoadFrom}
 use Rattle.s66_model.specs.Stated.{siblings_seen, tree_seen}
 use Rattle.s66_moments.specs.LineTrees.{LineEnding, is_closed}
-use Rattle.s66_cert.specs.Document.{Document, siblings_placed, tree_placed}
+use Rattle.s66_cert.specs.Documents.{Document, siblings_placed, tree_placed}
 use Rattle.s66_checker.specs.Dominating.{is_beginning, is_same_set}
 use Rattle.s66_checker.specs.Verdict.{problem_of, tree_line_number, node_on, is_name_at}
 use Rattle.s66_isa.specs.declared.limits.TheConstants.{BLOCK_LIMIT}

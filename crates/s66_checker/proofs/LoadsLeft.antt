@@ -6,7 +6,7 @@ use Rattle.s66_isa.specs.Lists.{every}
 use Rattle.s66_model.specs.Timing.{Problem}
 use Rattle.s66_model.specs.LegalOrder.{is_remaining}
 use Rattle.s66_model.proofs.Remaining.{remaining-parts}
-use Rattle.s66_moments.specs.Known.{Known, are_rising, is_left}
+use Rattle.s66_moments.specs.KnownFacts.{Known, are_rising, is_left}
 
 module _ (b : Problem) (prefix : List ℕ) where
   abbrev remains : ℕ → Bool

@@ -9,7 +9,7 @@ use Rattle.s66_moments.specs.FactLines.{Line, AreFounded, facts_after}
 use Rattle.s66_moments.specs.Suppositions.{Supposition, Standing, standing_first, with_step, standing_after, is_step_taken, are_steps_taken, shown_by_all}
 use Rattle.s66_moments.proofs.KnownLines.{IsSound}
 use Rattle.s66_moments.proofs.SupposedLines.{after-stands, closed-sound}
-use Rattle.s66_cert.specs.Document.{Document}
+use Rattle.s66_cert.specs.Documents.{Document}
 use Rattle.s66_checker.specs.declared.verdict.Verdict.{Verdict}
 use Rattle.s66_checker.specs.declared.verdict.Verdict.TheVariants.{Yes, No}
 use Rattle.s66_checker.specs.declared.verdict.Reason.TheVariants as fault

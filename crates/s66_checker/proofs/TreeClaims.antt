@@ -3,10 +3,10 @@ use Rattle.std.proofs.Common.{ℕ, ◌≡◌, ◌↔◌, List, [], ◌∷◌, �
 use Rattle.s66_isa.specs.Lists.{Among}
 use Rattle.s66_model.specs.Timing.{Problem}
 use Rattle.s66_model.specs.LegalOrder.{ready, IsBeginning}
-use Rattle.s66_model.specs.Tree.{Tree, Alone, Parted, Siblings, NoMore, Unsplit, Split, Vertex, AtTerminal, flat_siblings, flat, SiblingsHold, TreeHolds}
+use Rattle.s66_model.specs.Trees.{Tree, Alone, Parted, Siblings, NoMore, Unsplit, Split, Vertex, AtTerminal, flat_siblings, flat, SiblingsHold, TreeHolds}
 use Rattle.s66_model.specs.DominatedLeaves.{Ending}
 use Rattle.s66_model.proofs.Remaining.{step-begins}
-use Rattle.s66_cert.specs.Document.{Document, SiblingsFit, TreeFits, siblings_placed, tree_placed}
+use Rattle.s66_cert.specs.Documents.{Document, SiblingsFit, TreeFits, siblings_placed, tree_placed}
 use Rattle.s66_checker.specs.Verdict.{problem_of, line_fault}
 use Rattle.s66_checker.proofs.Faultless.{split-shows, ready-short}
 use Rattle.s66_model.proofs.AnswerBound.{AreReady, split-ready}

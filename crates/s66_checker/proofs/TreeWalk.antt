@@ -6,11 +6,11 @@ use Rattle.s66_isa.specs.Lists.{Among}
 use Rattle.s66_model.specs.Timing.{Problem}
 use Rattle.s66_model.specs.LegalOrder.{is_ready, ready}
 use Rattle.s66_model.specs.Later.{IsNextReady, children, coming, later}
-use Rattle.s66_model.specs.Tree.{Vertex, AtTerminal, AtSplit}
+use Rattle.s66_model.specs.Trees.{Vertex, AtTerminal, AtSplit}
 use Rattle.s66_model.specs.DominatedLeaves.{Ending}
 use Rattle.s66_model.proofs.Later.{replaced, dropped, split-first}
 use Rattle.s66_model.proofs.Remaining.{ready-among}
-use Rattle.s66_cert.specs.Document.{Document, tree_placed}
+use Rattle.s66_cert.specs.Documents.{Document, tree_placed}
 use Rattle.s66_cert.specs.DocumentParts.{Parts, AreWhole, document_of}
 use Rattle.s66_cert.specs.declared.limits.TheConstants.{SPLIT_LIMIT, FACT_LIMIT}
 use Rattle.s66_isa.specs.declared.limits.TheConstants.{BLOCK_LIMIT}

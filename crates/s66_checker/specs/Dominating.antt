@@ -11,7 +11,7 @@ use Rattle.s66_model.specs.declared.rule.Rule.TheVariants.{NoneNamed, WrittenEar
 use Rattle.s66_model.specs.Timing.{Problem, Point, row_at, copies, points_of, next, done_of, memory_wait, readers_wait, total_of}
 use Rattle.s66_model.specs.LegalOrder.{is_ready, remaining}
 use Rattle.s66_model.specs.Dominance.{place_in_word, references_wait, stores_wait, free_times, Clamp, no_clamp, clamp_at}
-use Rattle.s66_moments.specs.Known.{Known, issue_at_least, start_at_least}
+use Rattle.s66_moments.specs.KnownFacts.{Known, issue_at_least, start_at_least}
 
 -- each of these numbers is ready when it comes after the prefix
 abbrev pub is_beginning_after : List Instr → List ℕ → List ℕ → Bool

@@ -8,7 +8,7 @@ use Rattle.s66_model.specs.Timing.{Problem}
 use Rattle.s66_model.specs.declared.rule.Rule.{Rule}
 use Rattle.s66_model.specs.declared.rule.Rule.TheVariants.{ClampedStanding}
 use Rattle.s66_model.specs.Leaves.{Leaf, Whole, Chain, Load, Parcels}
-use Rattle.s66_model.specs.Tree.{Tree, Alone, Parted, Siblings, NoMore, Unsplit, Split}
+use Rattle.s66_model.specs.Trees.{Tree, Alone, Parted, Siblings, NoMore, Unsplit, Split}
 use Rattle.s66_model.specs.DominatedLeaves.{Ending, Bounding, Dominated, Factual}
 use Rattle.s66_model.specs.FactLeaves.{FactLeaf, Next, Turned, AtLine, LoadFrom}
 use Rattle.s66_model.specs.Examples.{late_reader_tree, increments_tree, increments_load}
@@ -19,7 +19,7 @@ use Rattle.s66_moments.specs.declared.fact_line.FactLine.TheVariants.{Pair}
 use Rattle.s66_moments.specs.declared.fact_line.FactStep.{FactStep}
 use Rattle.s66_moments.specs.declared.fact_line.FactStep.TheVariants.{Fact}
 use Rattle.s66_moments.specs.Examples.{load_fact}
-use Rattle.s66_cert.specs.Document.{Document}
+use Rattle.s66_cert.specs.Documents.{Document}
 use Rattle.s66_cert.specs.Examples.{standard_numbers, one_load, three_multiplies, after_one, late_reader}
 
 -- ONE LOAD WITH MORE THAN ONE FAULT

@@ -7,12 +7,12 @@ use Rattle.s66_moments.specs.declared.moment.Moment.TheVariants.{End}
 use Rattle.s66_moments.specs.Facts.{IsNumber}
 use Rattle.s66_moments.specs.Moments.{is_moment}
 use Rattle.s66_moments.specs.Networks.{tail}
-use Rattle.s66_moments.specs.Known.{span, arcs_of}
+use Rattle.s66_moments.specs.KnownFacts.{span, arcs_of}
 use Rattle.s66_moments.specs.Suppositions.{standing_first, are_steps_taken}
-use Rattle.s66_cert.specs.Document.{Document}
+use Rattle.s66_cert.specs.Documents.{Document}
 use Rattle.s66_facts.specs.declared.times.Times.{Times}
 use Rattle.s66_facts.specs.Passes.{AreTimes, times_at}
-use Rattle.s66_facts.specs.Ground.{Ground, known_of as known_in}
+use Rattle.s66_facts.specs.BlockGround.{Ground, known_of as known_in}
 use Rattle.s66_checker.specs.declared.verdict.Verdict.{Verdict}
 use Rattle.s66_checker.specs.declared.verdict.Verdict.TheVariants.{No}
 use Rattle.s66_checker.specs.declared.verdict.Reason.TheVariants as fault

@@ -7,13 +7,13 @@ ghost use Rattle.s66_isa.specs.declared.instr.Kind.TheVariants.{Boolean, Multipl
 ghost use Rattle.s66_model.specs.declared.rule.Rule.TheVariants.{NoneNamed, WrittenEarlier, ClampedStanding};
 ghost use Rattle.s66_model.specs.Examples.{standard_problem, late_reader, three_increments, packing_gap, two_gaps, booleans_and_sets, late_result, later_gap, fourth_bounding, fourth_split, increments_tree, increments_load};
 ghost use Rattle.s66_model.specs.Leaves.{Whole, Chain, Load, Parcels};
-ghost use Rattle.s66_model.specs.Tree.{Alone, Parted, NoMore, Unsplit, Split};
+ghost use Rattle.s66_model.specs.Trees.{Alone, Parted, NoMore, Unsplit, Split};
 ghost use Rattle.s66_model.specs.DominatedLeaves.{Bounding, Dominated, Factual};
 ghost use Rattle.s66_model.specs.FactLeaves.{Next, Turned, AtLine, LoadFrom};
 ghost use Rattle.s66_moments.specs.declared.fact_line.FactLine.TheVariants.{Pair};
 ghost use Rattle.s66_moments.specs.declared.fact_line.FactStep.TheVariants.{Fact, Suppose, Refuted};
 ghost use Rattle.s66_moments.specs.Examples as in_use;
-ghost use Rattle.s66_moments.specs.Known.{is_loaded};
+ghost use Rattle.s66_moments.specs.KnownFacts.{is_loaded};
 ghost use Rattle.s66_moments.specs.Examples.{known_of};
 ghost use Rattle.s66_cert.specs.Examples as examples;
 ghost use Rattle.s66_cert.specs.Examples.{after_one, with_times, with_order, with_chain, with_tree, with_name};

@@ -7,7 +7,7 @@ ghost use Rattle.s66_isa.specs.declared.limits.TheConstants.{BLOCK_LIMIT};
 ghost use Rattle.s66_model.specs.LegalOrder.{ready};
 ghost use Rattle.s66_model.specs.Leaves.{Whole, Chain, Load, Parcels};
 ghost use Rattle.s66_checker.specs.declared.verdict.Reason.TheVariants as fault;
-ghost use Rattle.s66_model.specs.Tree.{AtTerminal};
+ghost use Rattle.s66_model.specs.Trees.{AtTerminal};
 ghost use Rattle.s66_model.specs.DominatedLeaves.{Factual};
 ghost use Rattle.s66_model.specs.Lines.{fact_leaf_of, vertex_of};
 ghost use Rattle.s66_cert.specs.DocumentParts.{document_of};

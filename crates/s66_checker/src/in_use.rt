@@ -5,7 +5,7 @@ ghost use Rattle.std.specs.Prelude.{ℕ, ◌≡◌, ◌≤◌, ◌*◌, ◌↔�
 ghost use Rattle.s66_isa.specs.declared.limits.TheConstants.{BLOCK_LIMIT};
 ghost use Rattle.s66_model.specs.Timing.{row_at};
 ghost use Rattle.s66_model.specs.LegalOrder.{is_remaining, sum_remaining};
-ghost use Rattle.s66_facts.specs.Ground.{known_of as known_in};
+ghost use Rattle.s66_facts.specs.BlockGround.{known_of as known_in};
 ghost use Rattle.s66_checker.specs.Dominating.{number_finds_no_later, dominates_in_use};
 
 use crate::known::Known;

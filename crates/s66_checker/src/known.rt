@@ -5,7 +5,7 @@ ghost use Rattle.std.specs.Prelude.{◌≡◌, ◌≤◌, IfSome, IfNone, length
 ghost use Rattle.s66_cert.specs.DocumentParts.{document_of};
 ghost use Rattle.s66_cert.specs.declared.limits.TheConstants.{FACT_LIMIT};
 ghost use Rattle.s66_moments.specs.Suppositions.{standing_first};
-ghost use Rattle.s66_facts.specs.Ground.{known_of as known_in};
+ghost use Rattle.s66_facts.specs.BlockGround.{known_of as known_in};
 ghost use Rattle.s66_facts.specs.Supposing.{standing_in};
 ghost use Rattle.s66_checker.specs.Verdict.{problem_of, facts_of, begun_by};
 ghost use Rattle.s66_checker.specs.KeptKnown.{KnowsAll, AreTaken, IsUntaken, is_reached, is_result_late, is_point_late};
@@ -108,7 +108,7 @@ pub(crate) struct Known {
 
 impl Model for Known {
     ghost use Rattle.std.specs.Prelude.{◌≡◌};
-    ghost use Rattle.s66_facts.specs.Ground.{Ground};
+    ghost use Rattle.s66_facts.specs.BlockGround.{Ground};
     ghost use Rattle.s66_checker.specs.KeptKnown.{HasTails, AreTails};
 
     ghost Value = { Ground };
@@ -125,7 +125,7 @@ impl Known {
     ghost use Rattle.s66_moments.specs.declared.moment.Stage.TheVariants.{Issue, Start};
     ghost use Rattle.s66_moments.specs.declared.moment.Moment.TheVariants.{At};
     ghost use Rattle.s66_moments.specs.Networks.{tail};
-    ghost use Rattle.s66_moments.specs.Known.{arcs_of, next_value, is_turned};
+    ghost use Rattle.s66_moments.specs.KnownFacts.{arcs_of, next_value, is_turned};
 
     /// What is known after the fact lines of a document of this block under this profile. If one of them isn't shown by what is known
     /// before it, the number of the first such line in the document; if a supposition doesn't end, that of the line on which it began.

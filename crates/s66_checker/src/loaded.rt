@@ -9,8 +9,8 @@ ghost use Rattle.s66_isa.specs.Lists.{every, least, weigh};
 ghost use Rattle.s66_model.specs.Timing.{row_at};
 ghost use Rattle.s66_model.specs.LegalOrder.{is_remaining};
 ghost use Rattle.s66_moments.specs.FactLines.{Use, use_time};
-ghost use Rattle.s66_moments.specs.Known.{use_of, reaches, plus, are_rising, is_left, is_loaded};
-ghost use Rattle.s66_facts.specs.Ground.{known_of as known_in};
+ghost use Rattle.s66_moments.specs.KnownFacts.{use_of, reaches, plus, are_rising, is_left, is_loaded};
+ghost use Rattle.s66_facts.specs.BlockGround.{known_of as known_in};
 
 use crate::known::Known;
 use crate::leaf::over;

@@ -5,7 +5,7 @@ ghost use Rattle.s66_model.specs.Later.{IsNextReady, coming, later};
 ghost use Rattle.s66_model.specs.Lines.{vertex_of};
 ghost use Rattle.s66_cert.specs.DocumentParts.{document_of};
 ghost use Rattle.s66_checker.specs.KeptKnown.{KnowsAll};
-ghost use Rattle.s66_cert.specs.Document.{tree_placed};
+ghost use Rattle.s66_cert.specs.Documents.{tree_placed};
 ghost use Rattle.s66_checker.specs.Verdict.{problem_of, tree_line_number, lines_verdict};
 ghost use Rattle.s66_checker.specs.Walk.{coming_after, HasReady};
 

@@ -4,7 +4,7 @@ use Rattle.std.specs.Prelude.{Ok, is_none}
 use Rattle.std.proofs.lemmas.Bool.{and_parts}
 use Rattle.s66_isa.specs.Lists.{Among, every}
 use Rattle.s66_isa.specs.declared.profile.Profile.{Profile}
-use Rattle.s66_line.specs.Block.{Block, instrs_of}
+use Rattle.s66_line.specs.Blocks.{Block, instrs_of}
 use Rattle.s66_source.specs.Frame.{frame_of}
 use Rattle.s66_source.specs.LeftAlone.{Reading}
 use Rattle.s66_source.specs.Source.{source_of}

@@ -1,7 +1,7 @@
 -- What is said of an order that isn't legal, by whether texts are asked for and the new block is there.
 use Rattle.std.proofs.Common.{ℕ, zero, suc, ◌≡◌, ◌≤◌, ◌<◌, ◌++◌, ◌∙◌, Bool, true, false, Option, None, Some, List, [], ◌∷◌, length, refl, ap, ap₂, sym, arith, codes, decimal}
 use Rattle.std.specs.Prelude.{slice_get, slice_index_or}
-use Rattle.s66_line.specs.Block.{Block}
+use Rattle.s66_line.specs.Blocks.{Block}
 use Rattle.s66_compare.specs.Broken.{broken_text}
 use Rattle.s66_compare.specs.Compared.{not_legal_text}
 

@@ -6,8 +6,8 @@ use Rattle.std.proofs.lemmas.List.{length-map}
 use Rattle.s66_isa.specs.Lists.{Among, every}
 use Rattle.s66_isa.specs.declared.instr.Instr.{Instr}
 use Rattle.s66_isa.specs.declared.limits.TheConstants.{BLOCK_LIMIT}
-use Rattle.s66_line.specs.Block.{Block}
-use Rattle.s66_line.specs.Class.{begins_run, is_code}
+use Rattle.s66_line.specs.Blocks.{Block}
+use Rattle.s66_line.specs.Classes.{begins_run, is_code}
 use Rattle.s66_line.specs.Fields.{body, label_bytes, lines_of}
 use Rattle.s66_line.specs.Operand.{is_filled}
 use Rattle.s66_line.specs.declared.class.Class.{Class}
@@ -17,7 +17,7 @@ use Rattle.s66_source.specs.Frame.{FramePart, frame_of}
 use Rattle.s66_source.specs.LeftAlone.{Flagged, Reading, Standing, after_line, at_first, class_at, flagged_from, flagged_lines, is_alone, is_continued, redefined_by}
 use Rattle.s66_source.specs.Printed.{Placed, copied_line}
 use Rattle.s66_source.specs.ReadAgain.{AreComplete}
-use Rattle.s66_source.specs.Redefined.{Redefined}
+use Rattle.s66_source.specs.Redefinitions.{Redefined}
 use Rattle.s66_source.specs.Replaced.{AreGiven, line_text, others, printed_in, replaced, text_for, texts_of}
 use Rattle.s66_source.specs.Source.{Line, begins_block, block_of, blocks_of, classed_lines, classes_from, entry_of, instructions, parts_of, put_before, refusal, source_of}
 use Rattle.s66_source.specs.declared.columns.Columns.{Columns}

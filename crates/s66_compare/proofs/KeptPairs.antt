@@ -7,7 +7,7 @@ use Rattle.std.proofs.lemmas.Slice.Eq.{bytes_eq-Decides}
 use Rattle.s66_isa.specs.Lists.{first_that, has, rising, tally}
 use Rattle.s66_isa.specs.Table.{instr_at, numbers}
 use Rattle.s66_isa.specs.declared.instr.Instr.{Instr}
-use Rattle.s66_line.specs.Block.{Block, instrs_of, line_of, whole_text_of}
+use Rattle.s66_line.specs.Blocks.{Block, instrs_of, line_of, whole_text_of}
 use Rattle.s66_line.specs.InstructionText.{instr_in_text}
 use Rattle.s66_model.specs.Dependence.{conflict, depends}
 use Rattle.s66_model.specs.LegalOrder.{GoesOn, IsLegal, IsOrder, is_ready}

@@ -7,7 +7,7 @@ use Rattle.std.proofs.lemmas.Slice.Eq.{bytes_eq-Decides}
 use Rattle.s66_isa.specs.Lists.{has}
 use Rattle.s66_isa.specs.Table.{numbers}
 use Rattle.s66_isa.specs.declared.instr.Instr.{Instr}
-use Rattle.s66_line.specs.Block.{Block, instrs_of, line_of, whole_text_of}
+use Rattle.s66_line.specs.Blocks.{Block, instrs_of, line_of, whole_text_of}
 use Rattle.s66_model.specs.Dependence.{depends}
 use Rattle.s66_model.specs.LegalOrder.{GoesOn, IsLegal}
 use Rattle.s66_model.proofs.Beginnings.{beginning-front, length-rising}

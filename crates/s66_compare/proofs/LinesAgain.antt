@@ -6,10 +6,10 @@ use Rattle.s66_isa.specs.Lists.{Among, every}
 use Rattle.s66_isa.specs.Table.{instr_at}
 use Rattle.s66_isa.specs.declared.instr.Instr.{Instr}
 use Rattle.s66_isa.specs.declared.limits.TheConstants.{BLOCK_LIMIT}
-use Rattle.s66_line.specs.Block.{Block, bytes_of, instrs_of}
-use Rattle.s66_line.specs.Class.{is_code}
+use Rattle.s66_line.specs.Blocks.{Block, bytes_of, instrs_of}
+use Rattle.s66_line.specs.Classes.{is_code}
 use Rattle.s66_line.specs.Fields.{body, continues, is_blank, is_comment, is_return, from_operation, label_bytes, lines_of, trim, is_trailing}
-use Rattle.s66_line.specs.Class.{by_operation, is_located}
+use Rattle.s66_line.specs.Classes.{by_operation, is_located}
 use Rattle.s66_line.specs.Operand.{is_filled}
 use Rattle.s66_line.specs.declared.class.Class.{Class}
 use Rattle.s66_line.specs.declared.class.Class.TheVariants.{Comment, Other, Refused, Pad, Instruction}
@@ -24,7 +24,7 @@ use Rattle.s66_source.specs.LeftAlone.{Standing}
 use Rattle.s66_source.proofs.CharactersRead.{SpellsAll}
 use Rattle.s66_source.proofs.FlaggedLines.{same-alone}
 use Rattle.s66_source.proofs.FarOperands.{Fits, clear-printed, is_unclear, read-start}
-use Rattle.s66_source.specs.Redefined.{Redefined}
+use Rattle.s66_source.specs.Redefinitions.{Redefined}
 use Rattle.s66_source.proofs.ReadAgain.{none-refused, rest-taken}
 use Rattle.s66_source.proofs.ReadBack.{lines_of-line, trim-twice}
 use Rattle.s66_source.proofs.ReadBlock.{IsPrintable, IsSoundBlock, comments-front, front_text, printable-at, quiet-printable}

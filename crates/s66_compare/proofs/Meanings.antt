@@ -3,7 +3,7 @@ use Rattle.std.proofs.Common.{ℕ, zero, suc, ◌+◌, ◌≡◌, ◌≤◌, ◌
 use Rattle.s66_isa.specs.Lists.{rising}
 use Rattle.s66_isa.specs.Table.{instr_at, numbers}
 use Rattle.s66_isa.specs.declared.instr.Instr.{Instr}
-use Rattle.s66_line.specs.Block.{Block, bytes_of, constants_in, instrs_of, text_of, whole_text_of}
+use Rattle.s66_line.specs.Blocks.{Block, bytes_of, constants_in, instrs_of, text_of, whole_text_of}
 use Rattle.s66_line.specs.Characters.{characters_in, rest_in}
 use Rattle.s66_line.specs.InstructionText.{IsTextOf, Spells, instr_in_text, operand_in}
 use Rattle.s66_line.specs.Operand.{constant_of, instr_of}

@@ -2,8 +2,8 @@
 use Rattle.std.proofs.Common.{◌≡◌, ◌&&◌, ◌||◌, ◌==◌, ◌∙◌, not, ℕ, suc, Bool, true, false, if◌then◌else◌, Option, None, Some, List, [], ◌∷◌, refl, ap, ap₂}
 use Rattle.std.specs.Prelude.{is_none}
 use Rattle.s66_isa.specs.Lists.{some_of}
-use Rattle.s66_line.specs.Block.{Block}
-use Rattle.s66_line.specs.Class.{is_instruction}
+use Rattle.s66_line.specs.Blocks.{Block}
+use Rattle.s66_line.specs.Classes.{is_instruction}
 use Rattle.s66_line.specs.declared.class.Class.TheVariants.{Pad}
 use Rattle.s66_source.specs.Printed.{copied_line}
 use Rattle.s66_source.specs.Replaced.{begun, line_text, owner, text_for}

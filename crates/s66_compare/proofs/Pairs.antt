@@ -5,7 +5,7 @@ use Rattle.std.proofs.lemmas.Bool.{ne_eqb}
 use Rattle.std.proofs.lemmas.List.{drop_all, drop_more, take_more}
 use Rattle.s66_isa.specs.Lists.{rising}
 use Rattle.s66_isa.specs.declared.instr.Instr.{Instr}
-use Rattle.s66_line.specs.Block.{Block, instrs_of, whole_text_of}
+use Rattle.s66_line.specs.Blocks.{Block, instrs_of, whole_text_of}
 use Rattle.s66_compare.specs.Pairing.{AreWithin, partner, partners}
 use Rattle.s66_compare.specs.Verdict.{by_order, first_missing}
 use Rattle.s66_compare.specs.declared.verdict.BlockVerdict.{BlockVerdict}

@@ -7,7 +7,7 @@ use Rattle.s66_isa.specs.Lists.{Among, every, rising}
 use Rattle.s66_isa.specs.Table.{instr_at, numbers}
 use Rattle.s66_isa.specs.declared.instr.Instr.{Instr}
 use Rattle.s66_isa.specs.declared.profile.Profile.{Profile}
-use Rattle.s66_line.specs.Block.{Block, Entry, bytes_of, instrs_of, text_of, whole_text_of}
+use Rattle.s66_line.specs.Blocks.{Block, Entry, bytes_of, instrs_of, text_of, whole_text_of}
 use Rattle.s66_line.specs.Fields.{trim, upper, is_trailing}
 use Rattle.s66_line.specs.InstructionText.{IsTextOf, spelling}
 use Rattle.s66_model.specs.LegalOrder.{IsLegal}

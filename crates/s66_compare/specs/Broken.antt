@@ -6,7 +6,7 @@ use Rattle.s66_isa.specs.declared.instr.Instr.{Instr}
 use Rattle.s66_isa.specs.declared.instr.Memory.{Memory}
 use Rattle.s66_isa.specs.declared.instr.Memory.TheVariants as memory
 use Rattle.s66_isa.specs.declared.reg.Reg.{Reg}
-use Rattle.s66_line.specs.Block.{Block, instrs_of, line_of, whole_text_of}
+use Rattle.s66_line.specs.Blocks.{Block, instrs_of, line_of, whole_text_of}
 use Rattle.s66_why.specs.Why.{register_name}
 
 -- WHY an instruction depends on one before it

@@ -3,7 +3,7 @@
 use Rattle.std.specs.Prelude.{ℕ, ◌≤◌, Bool, ◌&&◌, ◌==◌, not, if◌then◌else◌, List, [], ◌∷◌, ◌++◌, bytes_eq, map}
 use Rattle.s66_isa.specs.Lists.{first_that, has}
 use Rattle.s66_isa.specs.Table.{numbers}
-use Rattle.s66_line.specs.Block.{Block, instrs_of, whole_text_of}
+use Rattle.s66_line.specs.Blocks.{Block, instrs_of, whole_text_of}
 
 abbrev pub texts_of : Block → List (List ℕ)
 texts_of block = map (whole_text_of block) (numbers (instrs_of block))

@@ -3,7 +3,7 @@ use Rattle.std.specs.Prelude.{ℕ, Bool, true, false, ◌&&◌, ◌==◌, ◌+�
 use Rattle.s66_isa.specs.Lists.{first_that, has}
 use Rattle.s66_isa.specs.Table.{numbers}
 use Rattle.s66_isa.specs.declared.instr.Instr.{Instr}
-use Rattle.s66_line.specs.Block.{Block, instrs_of, line_of}
+use Rattle.s66_line.specs.Blocks.{Block, instrs_of, line_of}
 use Rattle.s66_model.specs.Dependence.{depends}
 use Rattle.s66_compare.specs.Pairing.{first_left, paired}
 use Rattle.s66_compare.specs.declared.verdict.BlockVerdict.{BlockVerdict}

@@ -2,7 +2,7 @@
 
 ghost use Rattle.std.specs.Prelude.{ℕ, Bool, List, [], ◌∷◌, ◌≡◌, true, false, None, Some, codes};
 ghost use Rattle.s66_isa.specs.declared.profile.Profile.{Profile};
-ghost use Rattle.s66_line.specs.Block.{block_of_texts};
+ghost use Rattle.s66_line.specs.Blocks.{block_of_texts};
 ghost use Rattle.s66_source.specs.Frame.{FramePart, frame_of};
 ghost use Rattle.s66_source.specs.Halves.{halves_of};
 ghost use Rattle.s66_source.specs.LeftAlone.{Reading, plain};

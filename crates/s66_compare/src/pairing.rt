@@ -3,7 +3,7 @@
 ghost use Rattle.std.specs.Prelude.{◌≡◌, ◌≤◌, IfSome, IfNone, length};
 ghost use Rattle.s66_isa.specs.Lists.{has};
 ghost use Rattle.s66_isa.specs.declared.limits.TheConstants.{BLOCK_LIMIT};
-ghost use Rattle.s66_line.specs.Block.{instrs_of};
+ghost use Rattle.s66_line.specs.Blocks.{instrs_of};
 ghost use Rattle.s66_compare.specs.Pairing.{AreWithin, first_left, is_open, paired, partner};
 
 use arrayvec::ArrayVec;

@@ -2,7 +2,7 @@
 
 ghost use Rattle.std.specs.Prelude.{◌≡◌, [], length};
 ghost use Rattle.s66_isa.specs.declared.limits.TheConstants.{BLOCK_LIMIT};
-ghost use Rattle.s66_line.specs.Block.{instrs_of};
+ghost use Rattle.s66_line.specs.Blocks.{instrs_of};
 ghost use Rattle.s66_compare.specs.Pairing.{AreWithin};
 ghost use Rattle.s66_compare.specs.Verdict.{by_order, judged, kept_verdict, verdict_of};
 
@@ -57,7 +57,7 @@ impl Model for Judged {
 
 impl Judged {
     ghost use Rattle.std.specs.Prelude.{◌≡◌, IfSome, is_some};
-    ghost use Rattle.s66_line.specs.Block.{Block as BlockOf, instrs_of};
+    ghost use Rattle.s66_line.specs.Blocks.{Block as BlockOf, instrs_of};
     ghost use Rattle.s66_compare.specs.Verdict.{is_kept, judged};
 
     /// The order in which the new block has the old one's instructions, if that keeps every dependence. It looks at each two instructions

@@ -15,7 +15,7 @@ pub(crate) struct Instance<'b> {
 }
 
 impl<'b> Model for Instance<'b> {
-    ghost use Rattle.s66_line.specs.Block.{instrs_of};
+    ghost use Rattle.s66_line.specs.Blocks.{instrs_of};
     ghost use Rattle.s66_model.specs.Timing.{Problem};
 
     ghost Value = { Problem };

@@ -2,7 +2,7 @@
 //! may have these. It calls the finder, beams and searches in turn.
 
 ghost use Rattle.std.specs.Prelude.{◌≡◌, ◌≤◌, ◌+◌, ◌/◌, IfOk, IfSome};
-ghost use Rattle.s66_line.specs.Block.{instrs_of};
+ghost use Rattle.s66_line.specs.Blocks.{instrs_of};
 ghost use Rattle.s66_model.specs.Answer.{source_time};
 ghost use Rattle.s66_model.specs.Timing.{Problem};
 ghost use Rattle.s66_deep.specs.Orders.{IsGood, IsLooked};

@@ -32,7 +32,7 @@ impl<'a> Model for PathWalk<'a> {
 
 impl<'a> PathWalk<'a> {
     ghost use Rattle.std.specs.Prelude.{◌≡◌, ◌<◌, ◌++◌, [], ◌∷◌, true, IfSome, length};
-    ghost use Rattle.s66_line.specs.Block.{instrs_of};
+    ghost use Rattle.s66_line.specs.Blocks.{instrs_of};
     ghost use Rattle.s66_model.specs.LegalOrder.{is_ready, IsIncomplete};
     ghost use Rattle.s66_model.specs.Timing.{total_of};
     ghost use Rattle.s66_model.specs.Lines.{vertex_of, IsShort};

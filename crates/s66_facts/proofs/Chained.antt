@@ -6,7 +6,7 @@ use Rattle.s66_isa.proofs.Lists.{cases_le}
 use Rattle.s66_moments.specs.declared.moment.Moment.{Moment}
 use Rattle.s66_moments.specs.declared.fact_line.KnownArc.{KnownArc}
 use Rattle.s66_moments.specs.Networks.{same_moment}
-use Rattle.s66_moments.specs.Known.{later, latest}
+use Rattle.s66_moments.specs.KnownFacts.{later, latest}
 use Rattle.s66_moments.proofs.TableArcs.{and_three}
 use Rattle.s66_moments.proofs.MoreArcs.{same_moment-true}
 use Rattle.s66_moments.proofs.Spans.{height-same, height-later}

@@ -16,7 +16,7 @@ use Rattle.s66_isa.specs.declared.set.Set.{Set}
 use Rattle.s66_isa.specs.Lists.{has}
 use Rattle.s66_isa.specs.Members.{numbers_in, no_set}
 use Rattle.s66_facts.specs.Marked.{is_in, before_in}
-use Rattle.s66_facts.specs.Ground.{Ground, IsAcyclic}
+use Rattle.s66_facts.specs.BlockGround.{Ground, IsAcyclic}
 use Rattle.s66_facts.specs.Directions.{sooner}
 use Rattle.s66_facts.specs.Near.{uses, hands_on, covers, IsNear}
 use Rattle.s66_facts.specs.Passes.{share_unit}

@@ -17,7 +17,7 @@ use Rattle.s66_moments.specs.Moments.{writes, fetches, has_stage, is_moment, onl
 use Rattle.s66_moments.specs.Paths.{Hop, waits}
 use Rattle.s66_moments.specs.Facts.{IsNumber}
 use Rattle.s66_moments.specs.Networks.{Network, network, is_in_order, IsRising, IsNetworkPath, targets, same_moment, rank_by, place_by}
-use Rattle.s66_moments.specs.Known.{later, latest, plus, span, with_loads}
+use Rattle.s66_moments.specs.KnownFacts.{later, latest, plus, span, with_loads}
 use Rattle.s66_moments.proofs.TableArcs.{Some-same, None-none, only_if-parts}
 use Rattle.s66_moments.proofs.Tails.{network-parts, path-short, all-among, arc-some}
 use Rattle.s66_moments.proofs.MoreArcs.{same_moment-true, with-some, with-there, with-longer}
@@ -27,7 +27,7 @@ use Rattle.s66_moments.proofs.Spans.{height, height-later, height-latest, later-
 use Rattle.s66_facts.specs.declared.direction.Direction.{Direction}
 use Rattle.s66_facts.specs.declared.direction.Direction.TheVariants.{Forward, Backward}
 use Rattle.s66_facts.specs.Marked.{before_in}
-use Rattle.s66_facts.specs.Ground.{Ground, ground_arcs, IsAcyclic}
+use Rattle.s66_facts.specs.BlockGround.{Ground, ground_arcs, IsAcyclic}
 use Rattle.s66_facts.specs.Directions.{source, sooner, arc_start, arc_end, arcs_along, span_along}
 use Rattle.s66_facts.specs.Passes.{add, when, share_unit}
 

@@ -11,13 +11,13 @@ use Rattle.s66_isa.specs.Table.{instr_at, idle_instr, has_reg, reads_of, results
 use Rattle.s66_model.specs.Timing.{Problem}
 use Rattle.s66_model.specs.Dependence.{conflict, depends, share}
 use Rattle.s66_moments.specs.Networks.{precedes, precedes_over, IsTransitive, HasNoRing}
-use Rattle.s66_moments.specs.Known.{Known, known_first}
+use Rattle.s66_moments.specs.KnownFacts.{Known, known_first}
 use Rattle.s66_moments.proofs.Preceders.{precedes-transitive, precedes-no_ring}
 use Rattle.s66_isa.specs.declared.set.Set.{Set}
 use Rattle.s66_isa.specs.Lists.{has}
 use Rattle.s66_isa.specs.Members.{numbers_in, no_set}
 use Rattle.s66_facts.specs.Marked.{is_in, before_in, IsClosedUpTo}
-use Rattle.s66_facts.specs.Ground.{known_of, IsAcyclic}
+use Rattle.s66_facts.specs.BlockGround.{known_of, IsAcyclic}
 use Rattle.s66_model.proofs.PushedBoth.{pair-none}
 use Rattle.s66_isa.proofs.Lists.{get_or-past}
 

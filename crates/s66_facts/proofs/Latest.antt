@@ -8,7 +8,7 @@ use Rattle.s66_moments.specs.Facts.{IsNumber}
 use Rattle.s66_isa.specs.declared.instr.Instr.{Instr}
 use Rattle.s66_isa.specs.declared.profile.Profile.{Profile}
 use Rattle.s66_isa.specs.Table.{Row, row, numbers, instr_at, idle_instr}
-use Rattle.s66_moments.specs.Known.{later}
+use Rattle.s66_moments.specs.KnownFacts.{later}
 use Rattle.s66_moments.proofs.Spans.{height-same, height-later}
 use Rattle.s66_isa.specs.declared.set.Set.{Set}
 use Rattle.s66_facts.specs.declared.times.Times.{Times}

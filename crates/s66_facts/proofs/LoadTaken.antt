@@ -9,11 +9,11 @@ use Rattle.s66_moments.specs.declared.fact_line.LoadLine.{LoadLine}
 use Rattle.s66_moments.specs.declared.fact_line.KnownArc.{KnownArc}
 use Rattle.s66_moments.specs.Facts.{IsNumber}
 use Rattle.s66_moments.specs.Networks.{Network}
-use Rattle.s66_moments.specs.Known.{is_number, are_rising, is_used, is_arc_up}
+use Rattle.s66_moments.specs.KnownFacts.{is_number, are_rising, is_used, is_arc_up}
 use Rattle.s66_isa.specs.Lists.{has}
 use Rattle.s66_isa.specs.Members.{numbers_in, no_set}
 use Rattle.s66_facts.specs.Marked.{is_in, before_in}
-use Rattle.s66_facts.specs.Ground.{Ground, IsAcyclic}
+use Rattle.s66_facts.specs.BlockGround.{Ground, IsAcyclic}
 use Rattle.s66_isa.proofs.Lists.{split-among}
 
 -- nothing stands before what isn't of the block

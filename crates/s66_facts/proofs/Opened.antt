@@ -4,12 +4,12 @@ use Rattle.s66_model.specs.Timing.{Problem}
 use Rattle.s66_moments.specs.declared.fact_line.FactLine.TheVariants.{Pair, Load}
 use Rattle.s66_moments.specs.declared.fact_line.LoadLine.{LoadLine}
 use Rattle.s66_moments.specs.declared.fact_line.KnownArc.{KnownArc}
-use Rattle.s66_moments.specs.Known.{Known, with_line}
+use Rattle.s66_moments.specs.KnownFacts.{Known, with_line}
 use Rattle.s66_moments.specs.Suppositions.{may_be_supposed}
 use Rattle.s66_moments.proofs.SupposedLines.{MaySuppose, supposed-parts}
 use Rattle.s66_facts.specs.declared.supposing.OpenSupposition.{OpenSupposition}
 use Rattle.s66_facts.specs.Marked.{before_in}
-use Rattle.s66_facts.specs.Ground.{Ground, known_of}
+use Rattle.s66_facts.specs.BlockGround.{Ground, known_of}
 use Rattle.s66_facts.specs.Supposing.{IsSupposition, MayBeOpen}
 
 -- HOW MANY LOADS are known

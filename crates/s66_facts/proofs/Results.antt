@@ -13,7 +13,7 @@ use Rattle.s66_moments.specs.declared.moment.Stage.TheVariants.{Issue, Start, Do
 use Rattle.s66_moments.specs.declared.moment.Moment.{Moment}
 use Rattle.s66_moments.specs.declared.moment.Moment.TheVariants.{At}
 use Rattle.s66_moments.specs.Moments.{has_stage, latency_to, only_if}
-use Rattle.s66_moments.specs.Known.{later, latest}
+use Rattle.s66_moments.specs.KnownFacts.{later, latest}
 use Rattle.s66_moments.proofs.TableArcs.{Some-same, None-none}
 use Rattle.s66_moments.proofs.Spans.{height, height-same, later-left, later-right, latest-high}
 use Rattle.s66_facts.specs.declared.times.Times.{Times}

@@ -14,7 +14,7 @@ use Rattle.s66_moments.specs.declared.fact_line.FactLine.TheVariants.{Pair}
 use Rattle.s66_moments.specs.Moments.{only_if}
 use Rattle.s66_moments.specs.Facts.{IsNumber}
 use Rattle.s66_moments.specs.Networks.{IsTransitive, with_pair, same_moment}
-use Rattle.s66_moments.specs.Known.{Known, later, latest, with_line}
+use Rattle.s66_moments.specs.KnownFacts.{Known, later, latest, with_line}
 use Rattle.s66_facts.specs.declared.direction.Direction.{Direction}
 use Rattle.s66_facts.specs.declared.direction.Direction.TheVariants.{Forward, Backward}
 use Rattle.s66_isa.specs.declared.set.Set.{Set}
@@ -22,7 +22,7 @@ use Rattle.s66_facts.specs.declared.times.Times.{Times}
 use Rattle.s66_isa.specs.Lists.{has}
 use Rattle.s66_isa.specs.Members.{numbers_in}
 use Rattle.s66_facts.specs.Marked.{before_in}
-use Rattle.s66_facts.specs.Ground.{Ground, known_of, IsAcyclic}
+use Rattle.s66_facts.specs.BlockGround.{Ground, known_of, IsAcyclic}
 use Rattle.s66_facts.specs.Directions.{source, can_begin, sooner, rank, arc_start, arc_end, span_along}
 use Rattle.s66_facts.specs.Passes.{add, when, times_at, time_along, by_arc, by_loads, by_all, all_moments, times_of, AreResults, AreTimes}
 use Rattle.s66_facts.specs.Settled.{AreAll, IsStep, AreSettled, keeps}

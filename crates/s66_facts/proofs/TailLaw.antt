@@ -11,13 +11,13 @@ use Rattle.s66_moments.specs.declared.moment.Moment.TheVariants.{At}
 use Rattle.s66_moments.specs.Moments.{writes, fetches, has_stage, is_moment, only_if, latency_to, later_arc}
 use Rattle.s66_moments.specs.Facts.{IsNumber}
 use Rattle.s66_moments.specs.Networks.{same_moment}
-use Rattle.s66_moments.specs.Known.{later, latest, span, is_back}
+use Rattle.s66_moments.specs.KnownFacts.{later, latest, span, is_back}
 use Rattle.s66_moments.proofs.TableArcs.{None-none, moment-parts, moment-number}
 use Rattle.s66_moments.proofs.Spans.{height-some, some-height}
 use Rattle.s66_facts.specs.declared.direction.Direction.TheVariants.{Backward}
 use Rattle.s66_facts.specs.declared.times.Times.{Times}
 use Rattle.s66_facts.specs.Marked.{before_in}
-use Rattle.s66_facts.specs.Ground.{Ground, ground_arcs, IsAcyclic}
+use Rattle.s66_facts.specs.BlockGround.{Ground, ground_arcs, IsAcyclic}
 use Rattle.s66_facts.specs.Near.{uses, covers}
 use Rattle.s66_facts.specs.Passes.{no_times, add, when, times_at, latest_done, share_unit, latest_result, start_before, done_before, before_one, by_loads, by_all, tail_free, tail_done, tail_results, tail_start, tail_issue, times_of, AreResults, AreTimes}
 use Rattle.s66_facts.proofs.Latest.{later-assoc}

@@ -9,7 +9,7 @@ use Rattle.s66_facts.specs.declared.direction.Direction.{Direction}
 use Rattle.s66_facts.specs.declared.direction.Direction.TheVariants.{Forward, Backward}
 use Rattle.s66_facts.specs.declared.times.Times.{Times}
 use Rattle.s66_facts.specs.Marked.{before_in}
-use Rattle.s66_facts.specs.Ground.{Ground, IsAcyclic}
+use Rattle.s66_facts.specs.BlockGround.{Ground, IsAcyclic}
 use Rattle.s66_facts.specs.Directions.{sooner, rank}
 use Rattle.s66_facts.specs.Settled.{nth_number}
 use Rattle.s66_facts.specs.Passes.{no_times, times_at}

@@ -12,7 +12,7 @@ use Rattle.s66_moments.specs.declared.fact_line.KnownArc.{KnownArc}
 use Rattle.s66_moments.specs.Moments.{has_stage, is_moment, only_if}
 use Rattle.s66_moments.specs.Facts.{IsNumber}
 use Rattle.s66_moments.specs.Networks.{same_moment}
-use Rattle.s66_moments.specs.Known.{later, latest, is_front, is_back, leads_up}
+use Rattle.s66_moments.specs.KnownFacts.{later, latest, is_front, is_back, leads_up}
 use Rattle.s66_moments.proofs.TableArcs.{moment-parts, moment-number}
 use Rattle.s66_moments.proofs.MoreArcs.{same_moment-true, same_moment-self}
 use Rattle.s66_moments.proofs.KnownLines.{up-parts}
@@ -22,7 +22,7 @@ use Rattle.s66_facts.specs.declared.direction.Direction.{Direction}
 use Rattle.s66_facts.specs.declared.direction.Direction.TheVariants.{Forward, Backward}
 use Rattle.s66_facts.specs.declared.times.Times.{Times}
 use Rattle.s66_facts.specs.Marked.{before_in}
-use Rattle.s66_facts.specs.Ground.{Ground, ground_arcs, IsAcyclic}
+use Rattle.s66_facts.specs.BlockGround.{Ground, ground_arcs, IsAcyclic}
 use Rattle.s66_facts.specs.Directions.{source, can_begin, sooner, arc_start, arc_end, arcs_along, span_along}
 use Rattle.s66_facts.specs.Passes.{add, when, times_at, first_of, second_of, time_along, by_arc, by_loads, AreResults, AreTimes}
 use Rattle.s66_facts.proofs.Edges.{later-low, latest-low, when-low, only_if-low, most_time, add-high, when-high, between, HasArc, own_along, later_along, is_reached, span-fits, none-high, last-arc, step, step-low, to-source, load-arc, own-edge, later-edge, source-edge, leads}

@@ -4,7 +4,7 @@ use Rattle.s66_moments.specs.declared.moment.Moment.{Moment}
 use Rattle.s66_moments.specs.declared.moment.Moment.TheVariants.{Origin, At, End}
 use Rattle.s66_moments.specs.declared.fact_line.KnownArc.{KnownArc}
 use Rattle.s66_moments.specs.Networks.{same_moment}
-use Rattle.s66_moments.specs.Known.{later, latest}
+use Rattle.s66_moments.specs.KnownFacts.{later, latest}
 use Rattle.s66_facts.specs.declared.direction.Direction.{Direction}
 use Rattle.s66_facts.specs.Passes.{by_arc}
 

@@ -4,11 +4,11 @@ use Rattle.s66_moments.specs.declared.moment.Moment.{Moment}
 use Rattle.s66_moments.specs.declared.moment.Moment.TheVariants.{Origin, End}
 use Rattle.s66_moments.specs.declared.fact_line.KnownArc.{KnownArc}
 use Rattle.s66_moments.specs.Networks.{Network, place_by}
-use Rattle.s66_moments.specs.Known.{span, is_front, is_back}
+use Rattle.s66_moments.specs.KnownFacts.{span, is_front, is_back}
 use Rattle.s66_facts.specs.declared.direction.Direction.{Direction}
 use Rattle.s66_facts.specs.declared.direction.Direction.TheVariants.{Forward, Backward}
 use Rattle.s66_facts.specs.Marked.{before_in}
-use Rattle.s66_facts.specs.Ground.{Ground, ground_arcs}
+use Rattle.s66_facts.specs.BlockGround.{Ground, ground_arcs}
 
 -- the moment at which all paths begin
 abbrev pub source : Direction → Moment

@@ -1,5 +1,5 @@
 pub mod Marked
-pub mod Ground
+pub mod BlockGround
 pub mod Passes
 pub mod Chained
 pub mod Near

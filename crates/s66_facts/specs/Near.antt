@@ -13,7 +13,7 @@ use Rattle.s66_isa.specs.declared.set.Set.{Set}
 use Rattle.s66_isa.specs.Lists.{has}
 use Rattle.s66_isa.specs.Members.{numbers_in, no_set}
 use Rattle.s66_facts.specs.Marked.{before_in}
-use Rattle.s66_facts.specs.Ground.{IsAcyclic}
+use Rattle.s66_facts.specs.BlockGround.{IsAcyclic}
 use Rattle.s66_facts.specs.Passes.{share_unit}
 
 abbrev pub uses : Row → Reg → Bool

@@ -9,11 +9,11 @@ use Rattle.s66_moments.specs.declared.moment.Moment.TheVariants.{Origin, At, End
 use Rattle.s66_moments.specs.declared.fact_line.KnownArc.{KnownArc}
 use Rattle.s66_moments.specs.Moments.{writes, fetches, latency_to, only_if}
 use Rattle.s66_moments.specs.Networks.{same_moment}
-use Rattle.s66_moments.specs.Known.{later, latest}
+use Rattle.s66_moments.specs.KnownFacts.{later, latest}
 use Rattle.s66_facts.specs.declared.direction.Direction.{Direction}
 use Rattle.s66_facts.specs.declared.direction.Direction.TheVariants.{Forward, Backward}
 use Rattle.s66_facts.specs.declared.times.Times.{Times}
-use Rattle.s66_facts.specs.Ground.{Ground}
+use Rattle.s66_facts.specs.BlockGround.{Ground}
 use Rattle.s66_facts.specs.Directions.{source, arc_start, arc_end}
 
 -- so much later, up to the greatest number of the machine

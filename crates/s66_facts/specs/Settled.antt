@@ -9,7 +9,7 @@ use Rattle.s66_facts.specs.declared.times.Times.{Times}
 use Rattle.s66_isa.specs.Lists.{has}
 use Rattle.s66_isa.specs.Members.{numbers_in}
 use Rattle.s66_facts.specs.Marked.{before_in}
-use Rattle.s66_facts.specs.Ground.{Ground}
+use Rattle.s66_facts.specs.BlockGround.{Ground}
 use Rattle.s66_facts.specs.Passes.{times_at, AreTimes}
 use Rattle.s66_facts.specs.Directions.{sooner, rank, span_along}
 

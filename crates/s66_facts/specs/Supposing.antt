@@ -5,7 +5,7 @@ use Rattle.s66_moments.specs.Facts.{IsNumber}
 use Rattle.s66_moments.specs.Suppositions.{Supposition, Standing}
 use Rattle.s66_facts.specs.declared.supposing.OpenSupposition.{OpenSupposition}
 use Rattle.s66_facts.specs.Marked.{before_in}
-use Rattle.s66_facts.specs.Ground.{Ground, known_of}
+use Rattle.s66_facts.specs.BlockGround.{Ground, known_of}
 
 -- what is known, the supposition that is open, and how many fact lines were tried
 pub record Grounds : Type 0 where

@@ -12,7 +12,7 @@ ghost use Rattle.s66_moments.specs.Networks.{same_moment};
 ghost use Rattle.s66_isa.specs.Lists.{has};
 ghost use Rattle.s66_isa.specs.Members.{numbers_in};
 ghost use Rattle.s66_facts.specs.Marked.{before_in};
-ghost use Rattle.s66_facts.specs.Ground.{IsAcyclic};
+ghost use Rattle.s66_facts.specs.BlockGround.{IsAcyclic};
 ghost use Rattle.s66_facts.specs.Directions.{can_begin, sooner};
 ghost use Rattle.s66_facts.specs.Settled.{AreAll, IsReady, IsMarkedUpTo, AreSettled, keeps, nth_number};
 

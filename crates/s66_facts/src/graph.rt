@@ -35,7 +35,7 @@ pub(crate) struct Graph {
 }
 
 impl Model for Graph {
-    ghost use Rattle.s66_facts.specs.Ground.{Ground};
+    ghost use Rattle.s66_facts.specs.BlockGround.{Ground};
     ghost use Rattle.s66_facts.specs.Near.{IsKept};
 
     ghost Value = { Ground };
@@ -65,11 +65,11 @@ impl Graph {
     ghost use Rattle.s66_isa.specs.Lists.{has};
     ghost use Rattle.s66_isa.specs.Members.{numbers_in};
     ghost use Rattle.s66_facts.specs.Marked.{before_in};
-    ghost use Rattle.s66_facts.specs.Ground.{IsAcyclic, known_of};
+    ghost use Rattle.s66_facts.specs.BlockGround.{IsAcyclic, known_of};
     ghost use Rattle.s66_facts.specs.Directions.{sooner};
     ghost use Rattle.s66_facts.specs.Near.{IsNear};
     ghost use Rattle.s66_facts.specs.Passes.{share_unit};
-    ghost use Rattle.s66_moments.specs.Known.{known_first, with_line, is_number, is_arc_up};
+    ghost use Rattle.s66_moments.specs.KnownFacts.{known_first, with_line, is_number, is_arc_up};
     ghost use Rattle.s66_moments.specs.declared.fact_line.FactLine.TheVariants.{Pair};
 
     /// What is known of a block under a profile by dependence alone.

@@ -6,7 +6,7 @@ ghost use Rattle.s66_isa.specs.declared.limits.TheConstants.{BLOCK_LIMIT};
 ghost use Rattle.s66_moments.specs.Facts.{IsNumber};
 ghost use Rattle.s66_isa.specs.Lists.{has};
 ghost use Rattle.s66_isa.specs.Members.{numbers_in};
-ghost use Rattle.s66_facts.specs.Ground.{IsAcyclic};
+ghost use Rattle.s66_facts.specs.BlockGround.{IsAcyclic};
 ghost use Rattle.s66_facts.specs.Directions.{can_begin};
 ghost use Rattle.s66_facts.specs.Settled.{IsStep};
 ghost use Rattle.s66_facts.specs.Passes.{by_one, by_all, all_moments};

@@ -38,10 +38,10 @@ impl Model for Supposing {
 }
 
 impl Supposing {
-    ghost use Rattle.s66_moments.specs.Known.{is_taken};
+    ghost use Rattle.s66_moments.specs.KnownFacts.{is_taken};
     ghost use Rattle.s66_moments.specs.Suppositions.{standing_first, with_step, may_be_supposed, is_late, is_step_taken};
     ghost use Rattle.s66_moments.specs.declared.fact_line.FactStep.TheVariants.{Fact, Suppose, Refuted};
-    ghost use Rattle.s66_facts.specs.Ground.{known_of};
+    ghost use Rattle.s66_facts.specs.BlockGround.{known_of};
     ghost use Rattle.s66_facts.specs.Supposing.{standing_in};
 
     /// What is known of a block under a profile before the first step.

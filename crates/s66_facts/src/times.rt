@@ -5,7 +5,7 @@ ghost use Rattle.s66_isa.specs.Lists.{greatest, some_of};
 ghost use Rattle.s66_isa.specs.Table.{Write as WriteOf, same_reg, has_reg};
 ghost use Rattle.s66_moments.specs.Moments.{writes, fetches, only_if};
 ghost use Rattle.s66_moments.specs.Networks.{same_moment, same_stage};
-ghost use Rattle.s66_moments.specs.Known.{later, plus, reaches};
+ghost use Rattle.s66_moments.specs.KnownFacts.{later, plus, reaches};
 ghost use Rattle.s66_facts.specs.Passes.{add, when, times_at, latest_done, latest_result, time_at_moment, time_along};
 
 use crate::direction::Direction;

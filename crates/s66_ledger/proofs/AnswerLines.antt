@@ -7,11 +7,11 @@ use Rattle.s66_line.proofs.OperationLaw.{among-at}
 use Rattle.s66_model.specs.Timing.{Problem}
 use Rattle.s66_model.specs.LegalOrder.{is_ready, ready, IsBeginning, IsIncomplete}
 use Rattle.s66_model.specs.Leaves.{floor}
-use Rattle.s66_model.specs.Tree.{AtTerminal, AtSplit, flat}
+use Rattle.s66_model.specs.Trees.{AtTerminal, AtSplit, flat}
 use Rattle.s66_model.specs.Later.{children, later}
 use Rattle.s66_model.proofs.VertexLines.{lines-unsplit, lines-split, lines-tree, lines-both}
 use Rattle.s66_model.specs.DominatedLeaves.{Bounding, Dominated}
-use Rattle.s66_model.specs.Ledger as model
+use Rattle.s66_model.specs.LedgerRuns as model
 use Rattle.s66_model.specs.NodeTable.{stands_at, is_cut_at, IsTable}
 use Rattle.s66_model.specs.NodeTree.{is_split_at, state_ending, ending_at, node_tree}
 use Rattle.s66_model.proofs.Beginnings.{beginning-front}

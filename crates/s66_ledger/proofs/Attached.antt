@@ -5,12 +5,12 @@ use Rattle.std.proofs.lemmas.List.{append-nil, length-set}
 use Rattle.s66_model.specs.Timing.{Problem}
 use Rattle.s66_model.specs.LegalOrder.{ready}
 use Rattle.s66_model.specs.Leaves.{floor}
-use Rattle.s66_model.specs.Tree.{Tree, Alone, Parted, Vertex, AtTerminal, AtSplit, flat}
+use Rattle.s66_model.specs.Trees.{Tree, Alone, Parted, Vertex, AtTerminal, AtSplit, flat}
 use Rattle.s66_model.specs.DominatedLeaves.{Bounding}
 use Rattle.s66_model.specs.Piece.{Terminal, Carries, Frontier, Passed, TerminalHolds}
 use Rattle.s66_model.specs.Recorded.{TerminalOpens, TreeOpens}
-use Rattle.s66_model.specs.Ledger as model
-use Rattle.s66_model.specs.Ledger.{root_state, new_nodes}
+use Rattle.s66_model.specs.LedgerRuns as model
+use Rattle.s66_model.specs.LedgerRuns.{root_state, new_nodes}
 use Rattle.s66_node.specs.declared.node.Node.{Node}
 use Rattle.s66_node.specs.declared.node.State.{State}
 use Rattle.s66_node.specs.declared.node.State.TheVariants as state

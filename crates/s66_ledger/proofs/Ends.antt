@@ -5,7 +5,7 @@ use Rattle.s66_isa.specs.Lists.{Among}
 use Rattle.s66_model.specs.declared.rule.Rule.{Rule}
 use Rattle.s66_model.specs.Timing.{Problem}
 use Rattle.s66_model.specs.LegalOrder.{IsBeginning}
-use Rattle.s66_model.specs.Ledger.{Node, Open, Out, Cut, Closed, State, is_open_state, is_live_state, best_time}
+use Rattle.s66_model.specs.LedgerRuns.{Node, Open, Out, Cut, Closed, State, is_open_state, is_live_state, best_time}
 use Rattle.s66_model.specs.Coverage.{Covers, NodesHold, IsFinished, bound_of}
 use Rattle.s66_model.specs.Reached.{IsReached}
 use Rattle.s66_model.specs.Ended.{IsEnded, ended_answer}

@@ -8,8 +8,8 @@ use Rattle.s66_model.specs.declared.rule.Rule.{Rule}
 use Rattle.s66_model.specs.Timing.{Problem, total_of}
 use Rattle.s66_model.specs.LegalOrder.{IsLegal, IsBeginning}
 use Rattle.s66_model.specs.Leaves.{floor_value}
-use Rattle.s66_model.specs.Ledger as model
-use Rattle.s66_model.specs.Ledger.{best_time, Event, Grant, Claim, Offer, Back, Retire, Reply, Granted, Claimed, NotOut, Lower, NotLower, OtherBlock, Returned, Retired, Moves, Step}
+use Rattle.s66_model.specs.LedgerRuns as model
+use Rattle.s66_model.specs.LedgerRuns.{best_time, Event, Grant, Claim, Offer, Back, Retire, Reply, Granted, Claimed, NotOut, Lower, NotLower, OtherBlock, Returned, Retired, Moves, Step}
 use Rattle.s66_model.specs.Coverage.{Covers, NodesHold}
 use Rattle.s66_model.specs.Answer.{source_time}
 use Rattle.s66_model.specs.Reached.{IsReached}

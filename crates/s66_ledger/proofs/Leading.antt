@@ -2,7 +2,7 @@
 use Rattle.std.proofs.Common.{ℕ, zero, suc, ◌≡◌, ◌≤◌, ◌<◌, List, [], ◌∷◌, ◌++◌, length, get_or, set, refl, sym, ap, arith, inl, inr, subst, ◌∙◌}
 use Rattle.s66_isa.specs.Lists.{Among}
 use Rattle.s66_model.specs.Timing.{Problem}
-use Rattle.s66_model.specs.Ledger.{best_time, Event, Reply, Run}
+use Rattle.s66_model.specs.LedgerRuns.{best_time, Event, Reply, Run}
 use Rattle.s66_model.proofs.Histories.{run-join}
 use Rattle.s66_model.proofs.LedgerRuns.{run-falls}
 use Rattle.s66_ledger.specs.Finishing.{Leads}

@@ -5,10 +5,10 @@ use Rattle.s66_model.specs.declared.rule.Rule.{Rule}
 use Rattle.s66_model.specs.declared.rule.Rule.TheVariants.{NoneNamed, WrittenEarlier, ClampedStanding}
 use Rattle.s66_model.specs.Timing.{Problem, total_of}
 use Rattle.s66_model.specs.Leaves.{Whole, value, floor_value}
-use Rattle.s66_model.specs.Tree.{Tree, Alone, Parted, splits}
+use Rattle.s66_model.specs.Trees.{Tree, Alone, Parted, splits}
 use Rattle.s66_model.specs.Piece.{Terminal, Carries, Frontier, Passed}
 use Rattle.s66_model.specs.Expansion.{IsExpansion}
-use Rattle.s66_model.specs.Ledger.{Ledger, Node, Claim, Back, Claimed, Returned, best_time, allowance, is_open, node_at}
+use Rattle.s66_model.specs.LedgerRuns.{Ledger, Node, Claim, Back, Claimed, Returned, best_time, allowance, is_open, node_at}
 use Rattle.s66_model.specs.Coverage.{Covers}
 use Rattle.s66_model.proofs.Floors.{floor-whole}
 use Rattle.s66_model.proofs.LedgerRuns.{run-falls}

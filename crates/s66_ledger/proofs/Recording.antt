@@ -6,9 +6,9 @@ use Rattle.s66_isa.specs.Lists.{weigh, rising}
 use Rattle.s66_isa.proofs.Lists.{weigh-append}
 use Rattle.s66_model.specs.declared.rule.Rule.{Rule}
 use Rattle.s66_model.specs.Timing.{Problem, total_of}
-use Rattle.s66_model.specs.Tree.{Tree, Vertex, flat, splits}
+use Rattle.s66_model.specs.Trees.{Tree, Vertex, flat, splits}
 use Rattle.s66_model.specs.Piece.{Terminal, Frontier}
-use Rattle.s66_model.specs.Ledger.{Ledger, Event, Graft, Offer, Reply, Taken, Moves, Run, opening}
+use Rattle.s66_model.specs.LedgerRuns.{Ledger, Event, Graft, Offer, Reply, Taken, Moves, Run, opening}
 use Rattle.s66_model.specs.Recorded.{IsOwn, IsOwnPiece, IsOfferOf, graft_event}
 use Rattle.s66_model.specs.Accounts.{Account, account_of}
 use Rattle.s66_model.proofs.Histories.{run-next, history-spent}

@@ -6,7 +6,7 @@ use Rattle.s66_model.specs.declared.rule.Rule.{Rule}
 use Rattle.s66_model.specs.Timing.{Problem, total_of}
 use Rattle.s66_model.specs.LegalOrder.{IsLegal}
 use Rattle.s66_model.specs.Leaves.{Whole, value}
-use Rattle.s66_model.specs.Tree.{Tree, tree_values}
+use Rattle.s66_model.specs.Trees.{Tree, tree_values}
 use Rattle.s66_model.specs.DominatedLeaves.{Ending, Bounding}
 use Rattle.s66_model.specs.Answer.{ending_values, source_time}
 use Rattle.s66_model.proofs.AnswerBound.{answer-bound}

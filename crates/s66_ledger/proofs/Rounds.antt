@@ -12,11 +12,11 @@ use Rattle.s66_ledger.specs.declared.reply.Offered.{Offered}
 use Rattle.s66_ledger.specs.declared.reply.Offered.TheVariants as offered
 use Rattle.s66_ledger.specs.Replies.{offered_reply}
 use Rattle.s66_model.specs.Leaves.{value}
-use Rattle.s66_model.specs.Tree.{Tree, Alone, Parted, Siblings, NoMore, Unsplit, Split, splits}
+use Rattle.s66_model.specs.Trees.{Tree, Alone, Parted, Siblings, NoMore, Unsplit, Split, splits}
 use Rattle.s66_model.specs.Piece.{Terminal, Carries, Frontier, Passed, IsPiece}
 use Rattle.s66_model.specs.Expansion.{whole_orders}
 use Rattle.s66_model.specs.DominatedLeaves.{Bounding}
-use Rattle.s66_model.specs.Ledger.{Ledger, Node, State, Open, Out, Cut, Closed, Grant, Claim, Back, Granted, Claimed, Taken, Returned, OverAllowance, no_node, node_at, with_state, is_out_state, is_out, is_live_state, best_time, allowance, share_of, state_of, root_state, sibling_nodes, new_nodes, after_offer, after_graft, Offer, Graft, Moves, Event}
+use Rattle.s66_model.specs.LedgerRuns.{Ledger, Node, State, Open, Out, Cut, Closed, Grant, Claim, Back, Granted, Claimed, Taken, Returned, OverAllowance, no_node, node_at, with_state, is_out_state, is_out, is_live_state, best_time, allowance, share_of, state_of, root_state, sibling_nodes, new_nodes, after_offer, after_graft, Offer, Graft, Moves, Event}
 use Rattle.s66_model.specs.Coverage.{Covers}
 use Rattle.s66_node.specs.Pieces.{PieceOf, tree_of}
 use Rattle.s66_model.specs.Tickets.{TicketOf}

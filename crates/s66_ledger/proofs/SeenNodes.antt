@@ -3,7 +3,7 @@ use Rattle.std.proofs.Common.{ℕ, zero, suc, ◌<◌, ◌≡◌, cond, List, []
 use Rattle.std.proofs.lemmas.List.{append-nil}
 use Rattle.s66_isa.specs.Lists.{tally}
 use Rattle.s66_model.specs.Timing.{Problem}
-use Rattle.s66_model.specs.Ledger as model
+use Rattle.s66_model.specs.LedgerRuns as model
 use Rattle.s66_node.specs.declared.node.Node.{Node}
 use Rattle.s66_node.specs.declared.node.State.{State}
 use Rattle.s66_node.specs.declared.node.State.TheVariants as state

@@ -7,15 +7,15 @@ use Rattle.s66_model.specs.declared.rule.Rule.TheVariants.{NoneNamed, WrittenEar
 use Rattle.s66_model.specs.Timing.{Problem}
 use Rattle.s66_model.specs.LegalOrder.{IsIncomplete}
 use Rattle.s66_model.specs.DominatedLeaves.{DominatesByRule}
-use Rattle.s66_model.specs.Tree.{Tree, Alone, Parted, Siblings, NoMore, Unsplit, Split, Vertex, AtTerminal, AtSplit, SiblingsHold, TreeHolds, flat_siblings, flat, sibling_splits, splits, sibling_values}
+use Rattle.s66_model.specs.Trees.{Tree, Alone, Parted, Siblings, NoMore, Unsplit, Split, Vertex, AtTerminal, AtSplit, SiblingsHold, TreeHolds, flat_siblings, flat, sibling_splits, splits, sibling_values}
 use Rattle.s66_model.specs.NodeNames as names
 use Rattle.s66_model.specs.NodeNames.{terminal_at, sibling_at, is_node}
 use Rattle.s66_model.specs.Piece.{Terminal, Carries, Frontier, Passed, IsNamedIn, TerminalHolds, IsPiece}
 use Rattle.s66_model.specs.Preorder.{SiblingsMatch, TreeMatches}
 use Rattle.s66_model.specs.Expansion.{whole_at, whole_orders}
 use Rattle.s66_model.specs.Recorded.{TerminalOpens, SiblingsOpen, TreeOpens}
-use Rattle.s66_model.specs.Ledger as model
-use Rattle.s66_model.specs.Ledger.{sibling_nodes, root_state, new_nodes, may_name, TerminalIsNamed, AreNamed}
+use Rattle.s66_model.specs.LedgerRuns as model
+use Rattle.s66_model.specs.LedgerRuns.{sibling_nodes, root_state, new_nodes, may_name, TerminalIsNamed, AreNamed}
 use Rattle.s66_model.proofs.Forests.{tree-match}
 use Rattle.s66_node.specs.Growing.{sibling_prefixes, tree_prefixes}
 use Rattle.s66_node.specs.declared.node.Node.{Node}

@@ -3,7 +3,7 @@ use Rattle.std.proofs.Common.{ℕ, zero, suc, ◌+◌, ◌-◌, ◌≤◌, ◌<�
 use Rattle.std.proofs.lemmas.Bool.{cases_eq}
 use Rattle.std.proofs.lemmas.List.{length-set, get_or-set_other, get_or-set_same, take_all}
 use Rattle.s66_isa.specs.Lists.{weigh}
-use Rattle.s66_model.specs.Ledger.{Ledger, Node, State, Open, Out, no_node, node_at, with_state, Back, Retire, Returned, Retired, IsOut}
+use Rattle.s66_model.specs.LedgerRuns.{Ledger, Node, State, Open, Out, no_node, node_at, with_state, Back, Retire, Returned, Retired, IsOut}
 use Rattle.s66_ledger.specs.Finishing.{NoneOut, NoneOutBelow, IsIdle, IsReopening}
 use Rattle.s66_ledger.specs.LedgerMachine.{ledger_from}
 use Rattle.s66_ledger.specs.Ledgers.{LedgerOf, IsEvent}

@@ -7,10 +7,10 @@ use Rattle.s66_model.specs.declared.rule.Rule.{Rule}
 use Rattle.s66_model.specs.Timing.{Problem, total_of}
 use Rattle.s66_model.specs.LegalOrder.{IsComplete}
 use Rattle.s66_model.specs.Leaves.{value, floor_value}
-use Rattle.s66_model.specs.Tree.{Tree, Alone, Parted, Siblings, NoMore, Unsplit, Split, SiblingsHold, sibling_values}
+use Rattle.s66_model.specs.Trees.{Tree, Alone, Parted, Siblings, NoMore, Unsplit, Split, SiblingsHold, sibling_values}
 use Rattle.s66_model.specs.Piece.{Terminal, Carries, Frontier, Passed, TerminalHolds, IsPiece}
 use Rattle.s66_model.specs.Expansion.{whole_at, whole_orders}
-use Rattle.s66_model.specs.Ledger.{Ledger, Node, State, no_node, node_at, is_live_state, is_live, with_state, best_time, IsOut, root_state, sibling_nodes, new_nodes, after_graft}
+use Rattle.s66_model.specs.LedgerRuns.{Ledger, Node, State, no_node, node_at, is_live_state, is_live, with_state, best_time, IsOut, root_state, sibling_nodes, new_nodes, after_graft}
 use Rattle.s66_model.proofs.Floors.{floor-whole}
 use Rattle.s66_time.specs.TimedOrder.{TimedOrder}
 use Rattle.s66_node.specs.Pieces.{IsBestTimed}

@@ -6,8 +6,8 @@ use Rattle.s66_isa.proofs.Lists.{cases_le}
 use Rattle.s66_model.specs.Timing.{Problem, total_of}
 use Rattle.s66_model.specs.LegalOrder.{IsLegal, IsBeginning, IsComplete}
 use Rattle.s66_model.specs.Leaves.{floor_value, value}
-use Rattle.s66_model.specs.Ledger as model
-use Rattle.s66_model.specs.Ledger.{Ledger, is_live, best_time}
+use Rattle.s66_model.specs.LedgerRuns as model
+use Rattle.s66_model.specs.LedgerRuns.{Ledger, is_live, best_time}
 use Rattle.s66_model.proofs.Floors.{floor-whole}
 use Rattle.s66_model.proofs.LegalOrders.{order-legal}
 use Rattle.s66_ledger.specs.Finishing.{WholesAreTimed, IsTimedAt, IsOffering, IsTiming}

@@ -4,8 +4,8 @@ use Rattle.s66_isa.specs.Lists.{Among}
 use Rattle.s66_model.specs.Timing.{Problem}
 use Rattle.s66_model.specs.LegalOrder.{IsBeginning}
 use Rattle.s66_model.specs.DominatedLeaves.{Ending}
-use Rattle.s66_model.specs.Tree.{Vertex}
-use Rattle.s66_model.specs.Ledger as model
+use Rattle.s66_model.specs.Trees.{Vertex}
+use Rattle.s66_model.specs.LedgerRuns as model
 use Rattle.s66_model.specs.Later.{coming}
 use Rattle.s66_model.specs.NodeTable.{IsTable}
 use Rattle.s66_model.specs.NodeTree.{is_split_at, ending_at}

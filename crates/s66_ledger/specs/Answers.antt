@@ -5,7 +5,7 @@ use Rattle.s66_model.specs.declared.rule.Rule.{Rule}
 use Rattle.s66_model.specs.Timing.{Problem}
 use Rattle.s66_model.specs.Answer.{Answer, IsAnswer, source_time}
 use Rattle.s66_model.specs.LegalOrder.{IsBeginning}
-use Rattle.s66_model.specs.Ledger.{Ledger, Node}
+use Rattle.s66_model.specs.LedgerRuns.{Ledger, Node}
 use Rattle.s66_model.specs.NodeTable.{IsTable}
 use Rattle.s66_model.specs.Ended.{ended_answer}
 use Rattle.s66_model.specs.declared.limits.TheConstants.{BUDGET_LIMIT}

@@ -2,7 +2,7 @@
 use Rattle.std.specs.Prelude.{ℕ, ◌≡◌, ◌≤◌, true, Option, Some, None}
 use Rattle.s66_model.specs.Timing.{Problem}
 use Rattle.s66_model.specs.Leaves.{floor_value}
-use Rattle.s66_model.specs.Ledger.{Ledger, is_open, node_at}
+use Rattle.s66_model.specs.LedgerRuns.{Ledger, is_open, node_at}
 use Rattle.s66_model.specs.Tickets.{TicketOf}
 
 abbrev pub claimed_node : Option TicketOf → Option ℕ

@@ -4,11 +4,11 @@ use Rattle.s66_isa.specs.Lists.{Among, weigh, tally}
 use Rattle.s66_model.specs.Timing.{Problem}
 use Rattle.s66_model.specs.LegalOrder.{IsComplete}
 use Rattle.s66_model.specs.Leaves.{floor_value}
-use Rattle.s66_model.specs.Tree.{Tree, splits}
+use Rattle.s66_model.specs.Trees.{Tree, splits}
 use Rattle.s66_model.specs.Piece.{Terminal}
 use Rattle.s66_model.specs.Recorded.{TreeOpens}
 use Rattle.s66_node.specs.Pieces.{PieceOf, tree_of, IsExpandedPiece}
-use Rattle.s66_model.specs.Ledger.{Ledger, Node, Out, Event, Reply, Run, Graft, Taken, IsOut, is_open, is_out, is_live, best_time, allowance, node_at, after_offer}
+use Rattle.s66_model.specs.LedgerRuns.{Ledger, Node, Out, Event, Reply, Run, Graft, Taken, IsOut, is_open, is_out, is_live, best_time, allowance, node_at, after_offer}
 use Rattle.s66_model.specs.Tickets.{TicketOf}
 use Rattle.s66_ledger.specs.Ledgers.{LedgerOf, IsEvent}
 use Rattle.s66_ledger.specs.PieceSplits.{piece_splits}

@@ -1,7 +1,7 @@
 -- Used by contracts: what a graft is in the machine, also if it is refused.
 use Rattle.std.specs.Prelude.{ℕ, ◌≡◌}
-use Rattle.s66_model.specs.Ledger as model
-use Rattle.s66_model.specs.Ledger.{Event, Reply}
+use Rattle.s66_model.specs.LedgerRuns as model
+use Rattle.s66_model.specs.LedgerRuns.{Event, Reply}
 use Rattle.s66_model.specs.Recorded.{IsGraftOf}
 use Rattle.s66_node.specs.Pieces.{PieceOf, tree_of}
 use Rattle.s66_ledger.specs.declared.reply.GraftError.{GraftError}

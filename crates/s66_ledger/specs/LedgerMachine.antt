@@ -3,9 +3,9 @@ use Rattle.std.specs.Prelude.{ℕ, ◌+◌, ◌*◌, ◌≡◌, ◌≤◌, List,
 use Rattle.s66_isa.specs.declared.limits.TheConstants.{BLOCK_LIMIT}
 use Rattle.s66_model.specs.declared.rule.Rule.{Rule}
 use Rattle.s66_model.specs.Timing.{Problem}
-use Rattle.s66_model.specs.Tree.{Vertex}
+use Rattle.s66_model.specs.Trees.{Vertex}
 use Rattle.s66_model.specs.Piece.{Terminal}
-use Rattle.s66_model.specs.Ledger.{Ledger, Event, Reply, Step}
+use Rattle.s66_model.specs.LedgerRuns.{Ledger, Event, Reply, Step}
 use Rattle.s66_model.specs.Reached.{IsReached}
 use Rattle.s66_model.specs.Answer.{source_time}
 use Rattle.s66_time.specs.TimedOrder.{TimedOrder}

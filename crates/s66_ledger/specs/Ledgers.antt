@@ -3,9 +3,9 @@ use Rattle.std.specs.Prelude.{ℕ, ◌≡◌, List, [], ◌∷◌, ◌++◌, ◌
 use Rattle.s66_isa.specs.Lists.{weigh}
 use Rattle.s66_model.specs.declared.rule.Rule.{Rule}
 use Rattle.s66_model.specs.Timing.{Problem}
-use Rattle.s66_model.specs.Tree.{Vertex}
+use Rattle.s66_model.specs.Trees.{Vertex}
 use Rattle.s66_model.specs.Piece.{Terminal}
-use Rattle.s66_model.specs.Ledger.{Ledger, Event, Reply, Step, Run, opening}
+use Rattle.s66_model.specs.LedgerRuns.{Ledger, Event, Reply, Step, Run, opening}
 use Rattle.s66_model.specs.Accounts.{Summary, summary_of}
 use Rattle.s66_ledger.specs.declared.event_record.EventRecord.{EventRecord}
 use Rattle.s66_ledger.specs.HistoryEntries.{byte_count, line_count, entries_of}

@@ -3,10 +3,10 @@
 use Rattle.std.specs.Prelude.{ℕ, ◌≡◌, ◌<◌, min, Bool, true, false, List, [], ◌∷◌, ◌++◌, length, get_or, set, take}
 use Rattle.s66_model.specs.Timing.{Problem}
 use Rattle.s66_model.specs.Leaves.{floor, floor_value}
-use Rattle.s66_model.specs.Tree.{Vertex}
+use Rattle.s66_model.specs.Trees.{Vertex}
 use Rattle.s66_model.specs.DominatedLeaves.{Bounding, Dominated}
 use Rattle.s66_model.specs.Piece.{Terminal}
-use Rattle.s66_model.specs.Ledger as model
+use Rattle.s66_model.specs.LedgerRuns as model
 use Rattle.s66_node.specs.declared.node.Node.{Node}
 use Rattle.s66_node.specs.declared.node.State.{State}
 use Rattle.s66_node.specs.declared.node.State.TheVariants as state

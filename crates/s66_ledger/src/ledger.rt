@@ -43,10 +43,10 @@ impl<'a> Summed for Ledger<'a> {
 
 impl<'a> Ledger<'a> {
     ghost use Rattle.std.specs.Prelude.{[], ◌≡◌, ◌≤◌, length, IfOk, IfErr, OnOk, OnErr};
-    ghost use Rattle.s66_line.specs.Block.{instrs_of};
+    ghost use Rattle.s66_line.specs.Blocks.{instrs_of};
     ghost use Rattle.s66_isa.specs.Lists.{weigh};
     ghost use Rattle.s66_model.specs.Accounts.{Account};
-    ghost use Rattle.s66_model.specs.Ledger.{Event, Run, opening, best_time, Grant, Granted, Claim, Claimed, Back, Returned, NotOut, Retire, Retired, Taken};
+    ghost use Rattle.s66_model.specs.LedgerRuns.{Event, Run, opening, best_time, Grant, Granted, Claim, Claimed, Back, Returned, NotOut, Retire, Retired, Taken};
     ghost use Rattle.s66_model.specs.Recorded.{IsOfferOf, IsOwnPiece};
     ghost use Rattle.s66_model.specs.Coverage.{Covers, bound_of, IsFinished};
     ghost use Rattle.s66_model.specs.BestAndBound.{IsBound};

@@ -1,5 +1,5 @@
 //! The machine (`Machine`): the state of a ledger without its history, and what each event does to it. What the events mean is
-//! `s66_model/specs/Ledger.antt`.
+//! `s66_model/specs/LedgerRuns.antt`.
 
 use crate::answer::Answer;
 use crate::limits::GRANT_LIMIT;
@@ -32,7 +32,7 @@ pub(crate) struct Machine<'a> {
 }
 
 impl<'a> Model for Machine<'a> {
-    ghost use Rattle.s66_line.specs.Block.{instrs_of};
+    ghost use Rattle.s66_line.specs.Blocks.{instrs_of};
     ghost use Rattle.s66_ledger.specs.LedgerMachine.{MachineOf, machine_of, IsKeptMachine};
 
     ghost Value = { MachineOf };
@@ -46,11 +46,11 @@ impl<'a> Model for Machine<'a> {
 
 impl<'a> Machine<'a> {
     ghost use Rattle.std.specs.Prelude.{true, Some, None, [], ◌+◌, ◌≡◌, ◌<◌, ◌≤◌, ◌⊎◌, ◌↔◌, length, IfOk, IfErr, IfSome, IfNone, OnOk, OnErr, IsTrue};
-    ghost use Rattle.s66_line.specs.Block.{instrs_of};
+    ghost use Rattle.s66_line.specs.Blocks.{instrs_of};
     ghost use Rattle.s66_model.specs.LegalOrder.{IsBeginning};
     ghost use Rattle.s66_model.specs.Leaves.{floor_value};
-    ghost use Rattle.s66_model.specs.Tree.{splits};
-    ghost use Rattle.s66_model.specs.Ledger.{Event, opening, best_time, allowance, is_live, node_at, IsOut, Grant, Granted, Claim, Claimed, Back, Returned, NotOut, Retire, Retired};
+    ghost use Rattle.s66_model.specs.Trees.{splits};
+    ghost use Rattle.s66_model.specs.LedgerRuns.{Event, opening, best_time, allowance, is_live, node_at, IsOut, Grant, Granted, Claim, Claimed, Back, Returned, NotOut, Retire, Retired};
     ghost use Rattle.s66_model.specs.Recorded.{IsOfferOf, IsOwnPiece};
     ghost use Rattle.s66_model.specs.Coverage.{bound_of};
     ghost use Rattle.s66_node.specs.Pieces.{tree_of};

@@ -46,12 +46,12 @@ pub(crate) struct Stop {
 
 impl Ledger<'_> {
     ghost use Rattle.std.specs.Prelude.{true, false, Some, None, ◌≡◌, ◌≤◌, ◌<◌, OnOk, IfOk};
-    ghost use Rattle.s66_model.specs.Tree.{splits};
+    ghost use Rattle.s66_model.specs.Trees.{splits};
     ghost use Rattle.s66_model.specs.Leaves.{floor_value};
     ghost use Rattle.s66_model.specs.Timing.{total_of};
     ghost use Rattle.s66_model.specs.LegalOrder.{IsBeginning};
     ghost use Rattle.s66_time.specs.TimedOrder.{TimedOrder};
-    ghost use Rattle.s66_model.specs.Ledger.{best_time, allowance, node_at, IsOut, Back, Returned};
+    ghost use Rattle.s66_model.specs.LedgerRuns.{best_time, allowance, node_at, IsOut, Back, Returned};
     ghost use Rattle.s66_model.specs.Coverage.{Covers};
     ghost use Rattle.s66_node.specs.Pieces.{tree_of};
     ghost use Rattle.s66_ledger.specs.Ledgers.{IsEvent};

@@ -8,7 +8,7 @@ impl Ledger<'_> {
     ghost use Rattle.std.specs.Prelude.{◌<◌, ◌≤◌, length, OnOk};
     ghost use Rattle.s66_model.specs.Timing.{total_of};
     ghost use Rattle.s66_model.specs.LegalOrder.{IsLegal};
-    ghost use Rattle.s66_model.specs.Ledger.{best_time};
+    ghost use Rattle.s66_model.specs.LedgerRuns.{best_time};
     ghost use Rattle.s66_ledger.specs.Finishing.{Leads, IsIdle, WholesAreTimed, IsOffering, IsReopening, IsTiming};
 
     /// Takes back every allowance and every node that is out. If some node is out, this takes time linear in the number of nodes,

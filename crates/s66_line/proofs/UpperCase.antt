@@ -3,7 +3,7 @@ use Rattle.std.proofs.Common.{◌≡◌, ◌≤◌, ◌<◌, ◌-◌, ◌==◌, 
 use Rattle.std.proofs.lemmas.Bool.{and_parts, and_left, cond_both, lt-leb}
 use Rattle.s66_isa.specs.Lists.{every}
 use Rattle.s66_line.specs.Fields.{is_blank, is_return, upper_byte, upper, trim, skip_blanks, word, after_word, blanks, is_comment, from_location, location, from_operation, operation, operand, label_bytes, continues}
-use Rattle.s66_line.specs.Class.{is_located}
+use Rattle.s66_line.specs.Classes.{is_located}
 
 -- BYTES
 

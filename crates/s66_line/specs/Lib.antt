@@ -5,5 +5,5 @@ pub mod Spelling
 pub mod Terms
 pub mod InstructionText
 pub mod Characters
-pub mod Class
-pub mod Block
+pub mod Classes
+pub mod Blocks

@@ -21,7 +21,7 @@ pub struct Block<'a> {
 
 impl<'a> Model for Block<'a> {
     ghost use Rattle.std.specs.Prelude.{◌≤◌, ◌<◌, length};
-    ghost use Rattle.s66_line.specs.Block.{Block};
+    ghost use Rattle.s66_line.specs.Blocks.{Block};
     ghost use Rattle.s66_isa.specs.declared.limits.TheConstants.{BLOCK_LIMIT};
 
     ghost Value = { Block };
@@ -56,7 +56,7 @@ impl<'a> Block<'a> {
     ghost use Rattle.s66_isa.specs.Table.{instr_at, parcels_of};
     ghost use Rattle.s66_isa.specs.declared.instr.Instr.{Instr};
     ghost use Rattle.s66_line.specs.InstructionText.{Spells, IsTextOf, IsInstruction};
-    ghost use Rattle.s66_line.specs.Block.{instrs_of, entry_at, line_of, bytes_of, text_of, whole_text_of, block_of_texts};
+    ghost use Rattle.s66_line.specs.Blocks.{instrs_of, entry_at, line_of, bytes_of, text_of, whole_text_of, block_of_texts};
     ghost use Rattle.s66_isa.specs.declared.limits.TheConstants.{BLOCK_LIMIT};
     ghost use Rattle.s66_line.specs.declared.limits.TheConstants.{TEXT_LIMIT};
 

@@ -3,7 +3,7 @@
 
 ghost use Rattle.std.specs.Prelude.{◌≡◌, ◌≤◌, true, length};
 ghost use Rattle.s66_line.specs.Fields.{upper, body, from_operation, label_bytes};
-ghost use Rattle.s66_line.specs.Class.{IsSpelled, class_of, by_operation, is_code, is_located, is_pad};
+ghost use Rattle.s66_line.specs.Classes.{IsSpelled, class_of, by_operation, is_code, is_located, is_pad};
 ghost use Rattle.s66_line.specs.declared.limits.TheConstants.{LINE_BYTES_LIMIT, TEXT_LIMIT};
 
 use crate::characters::runs_on;
@@ -31,7 +31,7 @@ pub enum Class {
 
 impl Class {
     ghost use Rattle.std.specs.Prelude.{◌≡◌};
-    ghost use Rattle.s66_line.specs.Class.{is_code};
+    ghost use Rattle.s66_line.specs.Classes.{is_code};
 
     /// Whether it is an instruction or a `NO`.
     pub fn is_code(&self) -> bool

@@ -15,7 +15,7 @@ pub struct Entry<'a> {
 impl<'a> Model for Entry<'a> {
     ghost use Rattle.std.specs.Prelude.{◌≤◌, length};
     ghost use Rattle.s66_line.specs.InstructionText.{Spells};
-    ghost use Rattle.s66_line.specs.Block.{Entry};
+    ghost use Rattle.s66_line.specs.Blocks.{Entry};
     ghost use Rattle.s66_line.specs.declared.limits.TheConstants.{TEXT_LIMIT};
 
     ghost Value = { Entry };

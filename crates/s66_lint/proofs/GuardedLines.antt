@@ -6,13 +6,13 @@ use Rattle.std.proofs.lemmas.Bool.{and_parts, and_from}
 use Rattle.std.proofs.lemmas.List.Sums.{take_while-cons}
 use Rattle.std.proofs.lemmas.Option.{slice_get-map}
 use Rattle.s66_isa.specs.Lists.{every}
-use Rattle.s66_line.specs.Class.{class_of}
+use Rattle.s66_line.specs.Classes.{class_of}
 use Rattle.s66_line.specs.Fields.{body, continues, is_comment, is_newline, is_trailing, lines_of, operation, upper}
 use Rattle.s66_line.proofs.Wholes.{AreLines-lines_of}
 use Rattle.s66_source.specs.Counts.{counting_text, is_one_of, with_cover}
 use Rattle.s66_source.specs.LeftAlone.{Flagged, Reading, after_line, after_operation, at_first, directive_cover, flagged_from, flagged_lines, has_operation, is_alone, is_continued, is_directive, is_doubtful, is_off_switch, is_on_switch, off_after, plain, redefined_by, with_directive}
 use Rattle.s66_source.specs.declared.cover.Covered.{Covered}
-use Rattle.s66_source.specs.Redefined.{Redefined, defined_by, forming, is_short, nothing_redefined, redefined_in, renaming}
+use Rattle.s66_source.specs.Redefinitions.{Redefined, defined_by, forming, is_short, nothing_redefined, redefined_in, renaming}
 use Rattle.s66_source.specs.Replaced.{owner}
 use Rattle.s66_source.specs.Source.{Line, classed_lines}
 use Rattle.s66_source.specs.LeftAlone.{Standing}

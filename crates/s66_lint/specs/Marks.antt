@@ -3,7 +3,7 @@ use Rattle.std.specs.Prelude.{ℕ, ◌-◌, Bool, true, false, List, [], ◌∷�
 use Rattle.s66_line.specs.Fields.{lines_of}
 use Rattle.s66_line.specs.declared.limits.TheConstants.{LINE_BYTES_LIMIT}
 use Rattle.s66_source.specs.LeftAlone.{Standing, after_line, at_first, is_alone, is_continued}
-use Rattle.s66_source.specs.Redefined.{redefined_in}
+use Rattle.s66_source.specs.Redefinitions.{redefined_in}
 use Rattle.s66_source.specs.declared.limits.TheConstants.{SOURCE_LINES_LIMIT}
 use Rattle.s66_lint.specs.declared.finding.Finding.{Finding}
 use Rattle.s66_lint.specs.declared.finding.FindingRule.{FindingRule}

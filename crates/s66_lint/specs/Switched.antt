@@ -1,6 +1,6 @@
 -- To be believed: a source with the comments `*S66 OFF` and `*S66 ON` around each line that `--cut` leaves alone.
 use Rattle.std.specs.Prelude.{ℕ, Bool, true, false, not, if◌then◌else◌, List, [], ◌∷◌, ◌++◌, codes, map}
-use Rattle.s66_line.specs.Block.{Entry, Block}
+use Rattle.s66_line.specs.Blocks.{Entry, Block}
 use Rattle.s66_line.specs.Fields.{body, with_newlines}
 use Rattle.s66_line.specs.declared.class.Class.{Class}
 use Rattle.s66_line.specs.declared.class.Class.TheVariants.{Refused}

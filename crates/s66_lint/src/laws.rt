@@ -2,7 +2,7 @@
 
 ghost use Rattle.std.specs.Prelude.{◌≡◌, ℕ, List, [], ◌∷◌, Ok, true, false, codes, map, not};
 ghost use Rattle.s66_isa.specs.Lists.{every};
-ghost use Rattle.s66_line.specs.Block.{Block};
+ghost use Rattle.s66_line.specs.Blocks.{Block};
 ghost use Rattle.s66_source.specs.LeftAlone.{flagged_lines, plain};
 ghost use Rattle.s66_source.specs.Source.{Line, classed_lines, source_of};
 ghost use Rattle.s66_lint.specs.Marks.{alone_lines};

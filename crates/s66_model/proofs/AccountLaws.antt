@@ -8,7 +8,7 @@ use Rattle.s66_isa.specs.Lists.{weigh, rising}
 use Rattle.s66_isa.proofs.Lists.{weigh-append}
 use Rattle.s66_model.specs.declared.rule.Rule.{Rule}
 use Rattle.s66_model.specs.Timing.{Problem}
-use Rattle.s66_model.specs.Ledger.{Ledger, Event, Grant, Claim, Graft, Offer, Back, Retire, Reply, Granted, Claimed, Taken, NotOut, OtherPrefix, OverAllowance, Lower, NotLower, OtherBlock, Returned, Retired, worker, opening, best_time, Moves, Step, Run}
+use Rattle.s66_model.specs.LedgerRuns.{Ledger, Event, Grant, Claim, Graft, Offer, Back, Retire, Reply, Granted, Claimed, Taken, NotOut, OtherPrefix, OverAllowance, Lower, NotLower, OtherBlock, Returned, Retired, worker, opening, best_time, Moves, Step, Run}
 use Rattle.s66_model.specs.Recorded.{spends, spent_by}
 use Rattle.s66_model.specs.Accounts.{brief, entries_of, last_brief, Account, account_of, counted, no_account, Summary, summary_of, account_at, SeatRecord, Agrees, opened, least_after, after_event, after_reading}
 use Rattle.s66_model.proofs.Beginnings.{length-rising}

@@ -6,7 +6,7 @@ use Rattle.s66_model.specs.Timing.{Problem}
 use Rattle.s66_model.specs.LegalOrder.{is_ready, ready, IsBeginning}
 use Rattle.s66_model.specs.BestAndBound.{IsBound, IsBest}
 use Rattle.s66_model.specs.Leaves.{value, MayStand, floor}
-use Rattle.s66_model.specs.Tree.{Siblings, NoMore, Unsplit, Split, Tree, Alone, Parted, SiblingsHold, TreeHolds, sibling_values, tree_values}
+use Rattle.s66_model.specs.Trees.{Siblings, NoMore, Unsplit, Split, Tree, Alone, Parted, SiblingsHold, TreeHolds, sibling_values, tree_values}
 use Rattle.s66_model.specs.DominatedLeaves.{Ending, Bounding, Dominated, Factual, EndingShows, ShowsBy}
 use Rattle.s66_model.specs.Answer.{Answer, MayEnd, ending_values, IsAnswer, IsBestAnswer}
 use Rattle.s66_isa.proofs.Lists.{least-le, among-front, among-rest}

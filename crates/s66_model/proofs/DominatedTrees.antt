@@ -7,7 +7,7 @@ use Rattle.s66_model.specs.declared.rule.Rule.TheVariants.{NoneNamed, WrittenEar
 use Rattle.s66_model.specs.Timing.{Problem, total_of, points_of, next}
 use Rattle.s66_model.specs.LegalOrder.{IsLegal, Completes, IsBeginning, IsOrder}
 use Rattle.s66_model.specs.Leaves.{Leaf}
-use Rattle.s66_model.specs.Tree.{Siblings, NoMore, Unsplit, Split, Tree, Alone, Parted, Vertex, AtTerminal, AtSplit, SiblingsHold, TreeHolds, LeafShows, Shows}
+use Rattle.s66_model.specs.Trees.{Siblings, NoMore, Unsplit, Split, Tree, Alone, Parted, Vertex, AtTerminal, AtSplit, SiblingsHold, TreeHolds, LeafShows, Shows}
 use Rattle.s66_model.specs.Dominance.{IsNoWorse, clamp_at}
 use Rattle.s66_model.specs.DominatedLeaves.{Ending, Bounding, Dominated, Factual, IsEarlier, is_standing, may_be_named, DominatesByRule, EndingShows, ShowsBy, siblings_bounding, tree_bounding}
 use Rattle.s66_model.specs.NodeNames.{node_named, is_node}

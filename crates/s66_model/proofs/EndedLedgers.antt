@@ -8,10 +8,10 @@ use Rattle.s66_model.specs.Timing.{Problem}
 use Rattle.s66_model.specs.LegalOrder.{IsBeginning, IsComplete}
 use Rattle.s66_model.specs.BestAndBound.{IsBound}
 use Rattle.s66_model.specs.Leaves.{Leaf, Whole, value, floor, floor_value, MayStand}
-use Rattle.s66_model.specs.Tree.{Siblings, NoMore, Unsplit, Split, Tree, Alone, Parted, SiblingsHold, TreeHolds, sibling_values, tree_values}
+use Rattle.s66_model.specs.Trees.{Siblings, NoMore, Unsplit, Split, Tree, Alone, Parted, SiblingsHold, TreeHolds, sibling_values, tree_values}
 use Rattle.s66_model.specs.DominatedLeaves.{Ending, Bounding, Dominated, Factual}
 use Rattle.s66_model.specs.Answer.{source_time, MayEnd, ending_values, IsAnswer}
-use Rattle.s66_model.specs.Ledger.{Ledger, Node, State, Open, Out, Cut, Closed, is_cut, is_cut_state, is_live, is_live_state, node_at, no_node, with_state, root_state, new_nodes, best_time, opening, Event, Grant, Claim, Graft, Offer, Back, Retire, Reply, Granted, Claimed, Taken, NotOut, OtherPrefix, OverAllowance, Lower, NotLower, OtherBlock, Returned, Retired, Moves, Run}
+use Rattle.s66_model.specs.LedgerRuns.{Ledger, Node, State, Open, Out, Cut, Closed, is_cut, is_cut_state, is_live, is_live_state, node_at, no_node, with_state, root_state, new_nodes, best_time, opening, Event, Grant, Claim, Graft, Offer, Back, Retire, Reply, Granted, Claimed, Taken, NotOut, OtherPrefix, OverAllowance, Lower, NotLower, OtherBlock, Returned, Retired, Moves, Run}
 use Rattle.s66_model.specs.Coverage.{ClosedHolds, NodeHolds, NodesHold, Covers, live_floors, bound_of, IsFinished}
 use Rattle.s66_model.specs.NodeTable.{stands_at, is_cut_at, IsTable}
 use Rattle.s66_model.specs.NodeTree.{state_ending, ending_at, node_tree}

@@ -3,7 +3,7 @@ use Rattle.std.proofs.Common.{ℕ, zero, suc, ◌+◌, ◌≤◌, ◌<◌, ◌�
 use Rattle.std.proofs.lemmas.Bool.{cases_Bool}
 use Rattle.s66_model.specs.Timing.{Problem}
 use Rattle.s66_model.specs.LegalOrder.{ready}
-use Rattle.s66_model.specs.Tree.{Siblings, NoMore, Unsplit, Split, Tree, Alone, Parted}
+use Rattle.s66_model.specs.Trees.{Siblings, NoMore, Unsplit, Split, Tree, Alone, Parted}
 use Rattle.s66_model.specs.NodeTree.{each_sibling, grown_sibling, grown_tree}
 
 abbrev pub SiblingsFit : {M : Type 0} → Problem → (List ℕ → Bool) → (List ℕ → M) → List ℕ → List ℕ → Siblings M → Type 0

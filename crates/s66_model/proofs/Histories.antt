@@ -5,8 +5,8 @@ use Rattle.std.proofs.lemmas.List.{length-set, length-replicate}
 use Rattle.s66_isa.specs.Lists.{weigh, rising}
 use Rattle.s66_model.specs.declared.rule.Rule.{Rule}
 use Rattle.s66_model.specs.Timing.{Problem}
-use Rattle.s66_model.specs.Tree.{splits}
-use Rattle.s66_model.specs.Ledger.{Ledger, Event, Grant, Claim, Graft, Offer, Back, Retire, Reply, Granted, Claimed, Taken, NotOut, OtherPrefix, OverAllowance, Lower, NotLower, OtherBlock, Returned, Retired, worker, opening, allowance, share_of, best_time, Moves, Step, Run}
+use Rattle.s66_model.specs.Trees.{splits}
+use Rattle.s66_model.specs.LedgerRuns.{Ledger, Event, Grant, Claim, Graft, Offer, Back, Retire, Reply, Granted, Claimed, Taken, NotOut, OtherPrefix, OverAllowance, Lower, NotLower, OtherBlock, Returned, Retired, worker, opening, allowance, share_of, best_time, Moves, Step, Run}
 use Rattle.s66_model.specs.Answer.{source_time}
 use Rattle.s66_model.specs.Coverage.{Covers, NeverRises}
 use Rattle.s66_model.specs.NodeTable.{IsTable}

@@ -6,10 +6,10 @@ use Rattle.s66_isa.specs.Lists.{tally, weigh, Among}
 use Rattle.s66_model.specs.Timing.{Problem}
 use Rattle.s66_model.specs.LegalOrder.{is_ready, ready, GoesOn, IsBeginning, IsIncomplete}
 use Rattle.s66_model.specs.Leaves.{floor, floor_value}
-use Rattle.s66_model.specs.Tree.{Siblings, NoMore, Unsplit, Split, Tree, Alone, Parted, SiblingsHold, TreeHolds, sibling_splits, splits, siblings_split_at, split_at, sibling_values, tree_values}
+use Rattle.s66_model.specs.Trees.{Siblings, NoMore, Unsplit, Split, Tree, Alone, Parted, SiblingsHold, TreeHolds, sibling_splits, splits, siblings_split_at, split_at, sibling_values, tree_values}
 use Rattle.s66_model.specs.DominatedLeaves.{Ending, Bounding}
 use Rattle.s66_model.specs.Answer.{ending_values}
-use Rattle.s66_model.specs.Ledger.{Ledger, Node, State, Open, Out, Cut, Closed, is_cut, is_cut_state}
+use Rattle.s66_model.specs.LedgerRuns.{Ledger, Node, State, Open, Out, Cut, Closed, is_cut, is_cut_state}
 use Rattle.s66_model.specs.Coverage.{begins}
 use Rattle.s66_model.specs.NodeTable.{same_numbers, stands_at, is_cut_at, IsTable}
 use Rattle.s66_model.specs.NodeTree.{is_split_at, state_ending, ending_at, node_tree}

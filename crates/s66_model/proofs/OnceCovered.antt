@@ -5,10 +5,10 @@ use Rattle.s66_isa.specs.Lists.{tally, rising}
 use Rattle.s66_model.specs.Timing.{Problem}
 use Rattle.s66_model.specs.LegalOrder.{IsLegal, IsIncomplete, is_ready, ready, GoesOn}
 use Rattle.s66_model.specs.Leaves.{Leaf, value}
-use Rattle.s66_model.specs.Tree.{Tree, Alone, Parted, Siblings, NoMore, Unsplit, Split, SiblingsHold, TreeHolds, sibling_splits, splits}
+use Rattle.s66_model.specs.Trees.{Tree, Alone, Parted, Siblings, NoMore, Unsplit, Split, SiblingsHold, TreeHolds, sibling_splits, splits}
 use Rattle.s66_model.specs.DominatedLeaves.{Bounding}
 use Rattle.s66_model.specs.Piece.{Terminal, Carries, Frontier, Passed}
-use Rattle.s66_model.specs.Ledger.{Open, Closed, is_cut, state_of, sibling_nodes, root_state, new_nodes}
+use Rattle.s66_model.specs.LedgerRuns.{Open, Closed, is_cut, state_of, sibling_nodes, root_state, new_nodes}
 use Rattle.s66_model.specs.Coverage.{begins, covers}
 use Rattle.s66_isa.proofs.Lists.{tally-append, tally-none, tally-same}
 use Rattle.s66_model.proofs.LegalOrders.{legal-order, GoesOn-append, ready-parts}

@@ -6,10 +6,10 @@ use Rattle.s66_isa.specs.Table.{numbers}
 use Rattle.s66_model.specs.declared.rule.Rule.{Rule}
 use Rattle.s66_model.specs.Timing.{Problem, total_of}
 use Rattle.s66_model.specs.LegalOrder.{is_ready, ready, IsBeginning, IsIncomplete}
-use Rattle.s66_model.specs.Tree.{Siblings, NoMore, Unsplit, Split, Tree, Alone, Parted, SiblingsHold, TreeHolds}
+use Rattle.s66_model.specs.Trees.{Siblings, NoMore, Unsplit, Split, Tree, Alone, Parted, SiblingsHold, TreeHolds}
 use Rattle.s66_model.specs.Piece.{Terminal, TerminalHolds, IsPiece}
 use Rattle.s66_model.specs.Answer.{source_time}
-use Rattle.s66_model.specs.Ledger.{Ledger, Node, State, Open, Out, Cut, is_cut, is_cut_state, node_at, no_node, with_state, state_of, root_state, sibling_nodes, new_nodes, best_time, after_move, after_graft, opening, IsOut, Event, Grant, Claim, Graft, Offer, Back, Retire, Reply, Granted, Claimed, Taken, NotOut, OtherPrefix, OverAllowance, Lower, NotLower, OtherBlock, Returned, Retired, Moves, Run}
+use Rattle.s66_model.specs.LedgerRuns.{Ledger, Node, State, Open, Out, Cut, is_cut, is_cut_state, node_at, no_node, with_state, state_of, root_state, sibling_nodes, new_nodes, best_time, after_move, after_graft, opening, IsOut, Event, Grant, Claim, Graft, Offer, Back, Retire, Reply, Granted, Claimed, Taken, NotOut, OtherPrefix, OverAllowance, Lower, NotLower, OtherBlock, Returned, Retired, Moves, Run}
 use Rattle.s66_model.specs.Coverage.{NodesHold}
 use Rattle.s66_model.specs.NodeTable.{same_numbers, stands_at, is_cut_at, IsTable}
 use Rattle.s66_isa.proofs.Lists.{tally-append, tally-set, tally-none, tally-same}

@@ -5,7 +5,7 @@ use Rattle.s66_isa.specs.Lists.{Among}
 use Rattle.s66_model.specs.Timing.{Problem, total_of}
 use Rattle.s66_model.specs.LegalOrder.{ready, IsBeginning, IsIncomplete, Completes}
 use Rattle.s66_model.specs.Leaves.{Leaf, Whole, Chain, Load, Parcels, value, MayStand}
-use Rattle.s66_model.specs.Tree.{Siblings, NoMore, Unsplit, Split, Tree, Alone, Parted, LeafShows, SiblingsHold, Shows}
+use Rattle.s66_model.specs.Trees.{Siblings, NoMore, Unsplit, Split, Tree, Alone, Parted, LeafShows, SiblingsHold, Shows}
 use Rattle.s66_model.proofs.Remaining.{among-ready, step-begins, step-completes, rest-first, rest-none}
 use Rattle.s66_model.proofs.ParcelsBound.{parcels-sound}
 use Rattle.s66_model.proofs.LoadBound.{load-sound}

@@ -3,7 +3,7 @@ use Rattle.std.proofs.Common.{ℕ, zero, suc, ◌+◌, ◌-◌, ◌≤◌, ◌�
 use Rattle.std.proofs.lemmas.List.{append-nil}
 use Rattle.s66_isa.specs.declared.instr.Instr.{Instr}
 use Rattle.s66_model.specs.LegalOrder.{ready}
-use Rattle.s66_model.specs.Tree.{Siblings, NoMore, Unsplit, Split, Alone, Parted, AtTerminal, AtSplit, flat, flat_siblings}
+use Rattle.s66_model.specs.Trees.{Siblings, NoMore, Unsplit, Split, Alone, Parted, AtTerminal, AtSplit, flat, flat_siblings}
 use Rattle.s66_model.specs.NodeTree.{each_sibling, grown_sibling, grown_tree}
 use Rattle.s66_model.specs.Later.{children}
 use Rattle.s66_model.specs.TreeLines.{lines_at, lines_of}

@@ -3,7 +3,7 @@ use Rattle.std.specs.Prelude.{ℕ, ◌+◌, ◌-◌, ◌≡◌, ◌≤◌, ◌==
 use Rattle.s66_isa.specs.Lists.{rising}
 use Rattle.s66_model.specs.declared.rule.Rule.{Rule}
 use Rattle.s66_model.specs.Timing.{Problem}
-use Rattle.s66_model.specs.Ledger.{Ledger, Event, Grant, Claim, Graft, Offer, Back, Retire, Reply, Lower, NotLower, worker, best_time}
+use Rattle.s66_model.specs.LedgerRuns.{Ledger, Event, Grant, Claim, Graft, Offer, Back, Retire, Reply, Lower, NotLower, worker, best_time}
 use Rattle.s66_model.specs.Recorded.{spends, spent_by}
 
 -- AN EVENT IN BRIEF: its kind, with its node, splits or time

@@ -5,10 +5,10 @@ use Rattle.s66_model.specs.declared.rule.Rule.{Rule}
 use Rattle.s66_model.specs.Timing.{Problem, total_of}
 use Rattle.s66_model.specs.LegalOrder.{IsLegal, IsBeginning}
 use Rattle.s66_model.specs.Leaves.{value, floor, floor_value}
-use Rattle.s66_model.specs.Tree.{split_at}
+use Rattle.s66_model.specs.Trees.{split_at}
 use Rattle.s66_model.specs.Answer.{Answer, IsAnswer}
 use Rattle.s66_model.specs.DominatedLeaves.{Ending, Bounding, Dominated, Factual, DominatesByRule}
-use Rattle.s66_model.specs.Ledger.{Ledger, Node, Cut, Closed, is_cut, is_live, best_time, HasNamed}
+use Rattle.s66_model.specs.LedgerRuns.{Ledger, Node, Cut, Closed, is_cut, is_live, best_time, HasNamed}
 
 -- the order begins with the prefix
 abbrev pub begins : List ℕ → List ℕ → Bool

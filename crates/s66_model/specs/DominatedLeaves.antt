@@ -6,7 +6,7 @@ use Rattle.s66_model.specs.Timing.{Problem}
 use Rattle.s66_model.specs.LegalOrder.{IsIncomplete}
 use Rattle.s66_model.specs.Leaves.{Leaf}
 use Rattle.s66_model.specs.FactLeaves.{FactLeaf, names_none}
-use Rattle.s66_model.specs.Tree.{Siblings, NoMore, Unsplit, Split, Tree, Alone, Parted, Vertex, AtTerminal, AtSplit, TreeHolds, LeafShows}
+use Rattle.s66_model.specs.Trees.{Siblings, NoMore, Unsplit, Split, Tree, Alone, Parted, Vertex, AtTerminal, AtSplit, TreeHolds, LeafShows}
 use Rattle.s66_model.specs.Dominance.{Dominates, DominatesClamped}
 use Rattle.s66_model.specs.NodeNames.{node_named, is_node}
 

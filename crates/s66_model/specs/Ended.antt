@@ -5,7 +5,7 @@ use Rattle.s66_model.specs.Timing.{Problem}
 use Rattle.s66_model.specs.LegalOrder.{IsIncomplete}
 use Rattle.s66_model.specs.Leaves.{floor_value}
 use Rattle.s66_model.specs.Answer.{Answer}
-use Rattle.s66_model.specs.Ledger.{Ledger, Node, is_live, best_time}
+use Rattle.s66_model.specs.LedgerRuns.{Ledger, Node, is_live, best_time}
 use Rattle.s66_model.specs.Coverage.{bound_of}
 use Rattle.s66_model.specs.NodeTree.{node_tree}
 

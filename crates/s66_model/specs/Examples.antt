@@ -17,7 +17,7 @@ use Rattle.s66_model.specs.Meaning.{Term, Initial, Computed, Terms, NoTerms, The
 use Rattle.s66_model.specs.Timing.{Problem, Point, row_at, points_of, latest_result}
 use Rattle.s66_model.specs.Leaves.{Leaf, Whole, Chain, Load, link, load, chain, longest_chain, floor, floor_value}
 use Rattle.s66_model.specs.Tails.{longest_tail}
-use Rattle.s66_model.specs.Tree.{Tree, Parted, Siblings, NoMore, Unsplit, Split}
+use Rattle.s66_model.specs.Trees.{Tree, Parted, Siblings, NoMore, Unsplit, Split}
 use Rattle.s66_model.specs.Answer.{Answer}
 use Rattle.s66_model.specs.DominatedLeaves.{Ending, Bounding, Dominated, tree_bounding}
 use Rattle.s66_model.specs.Piece.{Terminal, Carries, Frontier}

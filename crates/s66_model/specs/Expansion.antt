@@ -5,7 +5,7 @@ use Rattle.s66_model.specs.declared.rule.Rule.{Rule}
 use Rattle.s66_model.specs.Timing.{Problem, total_of}
 use Rattle.s66_model.specs.LegalOrder.{IsComplete, IsIncomplete}
 use Rattle.s66_model.specs.Leaves.{Whole, Chain, Load, Parcels, value, floor, floor_value}
-use Rattle.s66_model.specs.Tree.{Tree, AtTerminal, TreeHolds, flat, splits, split_at, tree_values}
+use Rattle.s66_model.specs.Trees.{Tree, AtTerminal, TreeHolds, flat, splits, split_at, tree_values}
 use Rattle.s66_model.specs.DominatedLeaves.{DominatesByRule}
 use Rattle.s66_model.specs.Piece.{Terminal, Carries, Frontier, Passed, IsNamedIn}
 

@@ -6,7 +6,7 @@ use Rattle.s66_model.specs.Timing.{Problem}
 use Rattle.s66_model.specs.Leaves.{Load}
 use Rattle.s66_model.specs.DominatedLeaves.{Bounding}
 use Rattle.s66_model.specs.Piece.{Frontier}
-use Rattle.s66_model.specs.Ledger.{State, Open, Out, Cut, Closed, Node, Ledger, Event, Grant, Claim, Graft, Offer, Reply, Granted, Claimed, Taken, NotOut, NotLower, Step, Run}
+use Rattle.s66_model.specs.LedgerRuns.{State, Open, Out, Cut, Closed, Node, Ledger, Event, Grant, Claim, Graft, Offer, Reply, Granted, Claimed, Taken, NotOut, NotLower, Step, Run}
 use Rattle.s66_model.specs.Examples.{one_split}
 
 -- LEDGERS AND THEIR HISTORIES

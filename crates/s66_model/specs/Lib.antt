@@ -2,7 +2,7 @@ pub mod Lines
 pub mod Marks
 pub mod Accounts
 pub mod Expansion
-pub mod Ledger
+pub mod LedgerRuns
 pub mod Coverage
 pub mod NodeTable
 pub mod NodeTree
@@ -22,7 +22,7 @@ pub mod BestAndBound
 pub mod Leaves
 pub mod Floor
 pub mod Tails
-pub mod Tree
+pub mod Trees
 pub mod Preorder
 pub mod Later
 pub mod Answer

@@ -2,7 +2,7 @@
 use Rattle.std.specs.Prelude.{◌≡◌, ◌≤◌, Bool, true, false, List, [], ◌∷◌, length, Option, None, Some}
 use Rattle.s66_isa.specs.declared.limits.TheConstants.{BLOCK_LIMIT}
 use Rattle.s66_model.specs.Leaves.{Whole, Chain, Load, Parcels}
-use Rattle.s66_model.specs.Tree.{Vertex, AtTerminal, AtSplit}
+use Rattle.s66_model.specs.Trees.{Vertex, AtTerminal, AtSplit}
 use Rattle.s66_model.specs.DominatedLeaves.{Ending, Bounding, Dominated, Factual}
 use Rattle.s66_model.specs.FactLeaves.{FactLeaf, Next, Turned, AtLine, LoadFrom}
 use Rattle.s66_model.specs.declared.lines.FactLeaf.{FactLeaf as LineFactLeaf}

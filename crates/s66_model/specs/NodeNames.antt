@@ -1,6 +1,6 @@
 -- To be believed: which node of a tree has a name, the numbers of its prefix.
 use Rattle.std.specs.Prelude.{ℕ, Bool, true, false, if◌then◌else◌, ◌==◌, List, [], ◌∷◌, Option, Some, None}
-use Rattle.s66_model.specs.Tree.{Siblings, NoMore, Unsplit, Split, Tree, Alone, Parted, Vertex, AtTerminal, AtSplit}
+use Rattle.s66_model.specs.Trees.{Siblings, NoMore, Unsplit, Split, Tree, Alone, Parted, Vertex, AtTerminal, AtSplit}
 
 -- a terminal has no nodes below it
 abbrev pub terminal_at : {M : Type 0} → M → List ℕ → Option (Vertex M)

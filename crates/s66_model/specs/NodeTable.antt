@@ -5,7 +5,7 @@ use Rattle.s66_isa.specs.Table.{numbers}
 use Rattle.s66_model.specs.Timing.{Problem}
 use Rattle.s66_model.specs.LegalOrder.{is_ready, IsIncomplete}
 use Rattle.s66_model.specs.Answer.{source_time}
-use Rattle.s66_model.specs.Ledger.{Ledger, Node, Cut, is_cut, best_time}
+use Rattle.s66_model.specs.LedgerRuns.{Ledger, Node, Cut, is_cut, best_time}
 
 abbrev pub same_numbers : List ℕ → List ℕ → Bool
 same_numbers [] [] = true

@@ -5,9 +5,9 @@ use Rattle.s66_isa.specs.Lists.{tally}
 use Rattle.s66_model.specs.Timing.{Problem}
 use Rattle.s66_model.specs.LegalOrder.{ready}
 use Rattle.s66_model.specs.Leaves.{floor}
-use Rattle.s66_model.specs.Tree.{Siblings, NoMore, Unsplit, Split, Tree, Alone, Parted}
+use Rattle.s66_model.specs.Trees.{Siblings, NoMore, Unsplit, Split, Tree, Alone, Parted}
 use Rattle.s66_model.specs.DominatedLeaves.{Ending, Bounding, Dominated, Factual}
-use Rattle.s66_model.specs.Ledger.{State, Open, Out, Cut, Closed, Node}
+use Rattle.s66_model.specs.LedgerRuns.{State, Open, Out, Cut, Closed, Node}
 use Rattle.s66_model.specs.NodeTable.{stands_at, is_cut_at}
 
 -- each of these numbers after the prefix, in front of its later siblings

@@ -1,6 +1,6 @@
 -- Used by contracts of pieces, answers and documents: the tree that a list of vertices in preorder is.
 use Rattle.std.specs.Prelude.{ℕ, List, [], ◌∷◌}
-use Rattle.s66_model.specs.Tree.{Tree, Alone, Parted, Siblings, NoMore, Unsplit, Split, Vertex, AtTerminal, AtSplit}
+use Rattle.s66_model.specs.Trees.{Tree, Alone, Parted, Siblings, NoMore, Unsplit, Split, Vertex, AtTerminal, AtSplit}
 
 -- A list of vertices is read from its end: each split takes the trees that follow it, one for each of its numbers.
 

@@ -2,7 +2,7 @@
 use Rattle.std.specs.Prelude.{ℕ, List}
 use Rattle.s66_model.specs.declared.rule.Rule.{Rule}
 use Rattle.s66_model.specs.Timing.{Problem}
-use Rattle.s66_model.specs.Ledger.{Ledger, Event, Reply, Run, opening}
+use Rattle.s66_model.specs.LedgerRuns.{Ledger, Event, Reply, Run, opening}
 
 -- by the rule, with this budget and this many workers
 abbrev pub IsReached : Rule → Problem → (budget workers : ℕ) → Ledger → Type 0

@@ -3,9 +3,9 @@ use Rattle.std.specs.Prelude.{ℕ, ◌≡◌, ◌↔◌, ◌⊎◌, ◌==◌, Bo
 use Rattle.s66_isa.specs.Lists.{weigh}
 use Rattle.s66_model.specs.declared.rule.Rule.{Rule}
 use Rattle.s66_model.specs.Timing.{Problem, total_of}
-use Rattle.s66_model.specs.Tree.{Tree, Alone, Parted, Siblings, NoMore, Unsplit, Split, splits}
+use Rattle.s66_model.specs.Trees.{Tree, Alone, Parted, Siblings, NoMore, Unsplit, Split, splits}
 use Rattle.s66_model.specs.Piece.{Terminal, Carries, Frontier, Passed}
-use Rattle.s66_model.specs.Ledger.{Event, Graft, Offer, Reply, Taken, worker}
+use Rattle.s66_model.specs.LedgerRuns.{Event, Graft, Offer, Reply, Taken, worker}
 
 -- own says whether p, which an order is of, is the ledger's block and profile
 abbrev pub IsOwn : (b p : Problem) → Bool → Type 0

@@ -7,7 +7,7 @@ ghost use Rattle.s66_model.specs.declared.rule.Rule.TheVariants.{NoneNamed};
 ghost use Rattle.s66_model.specs.Timing.{Problem};
 ghost use Rattle.s66_model.specs.BestAndBound.{IsBound, IsBest};
 ghost use Rattle.s66_model.specs.Leaves.{Whole, Chain, Load, Parcels};
-ghost use Rattle.s66_model.specs.Tree.{Alone};
+ghost use Rattle.s66_model.specs.Trees.{Alone};
 ghost use Rattle.s66_model.specs.DominatedLeaves.{ShowsBy};
 ghost use Rattle.s66_model.specs.Answer.{Answer, IsAnswer, IsBestAnswer, source_time};
 ghost use Rattle.s66_model.specs.Examples.{standard_problem, zero_register, boolean_problem, load_problem, multiply_problem, answer, every_order, all_but_one, one_omitted, load_tree, load_orders};

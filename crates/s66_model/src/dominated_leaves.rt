@@ -7,7 +7,7 @@ ghost use Rattle.s66_model.specs.Timing.{Problem, total_of};
 ghost use Rattle.s66_model.specs.LegalOrder.{IsLegal};
 ghost use Rattle.s66_model.specs.BestAndBound.{IsBound};
 ghost use Rattle.s66_model.specs.Leaves.{Leaf};
-ghost use Rattle.s66_model.specs.Tree.{Tree, Shows};
+ghost use Rattle.s66_model.specs.Trees.{Tree, Shows};
 ghost use Rattle.s66_model.specs.DominatedLeaves.{Ending, Dominated, ShowsBy, tree_bounding};
 ghost use Rattle.s66_model.specs.Examples.{standard_problem, ByBoth, late_reader, three_increments, late_reader_tree, fourth_bounding, fourth_split, increments_load, increments_tree, first_unsplit, order_ending};
 

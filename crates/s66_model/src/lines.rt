@@ -140,7 +140,7 @@ pub struct KeptLines {
 
 impl Model for KeptLines {
     ghost use Rattle.std.specs.Prelude.{List};
-    ghost use Rattle.s66_model.specs.Tree.{Vertex};
+    ghost use Rattle.s66_model.specs.Trees.{Vertex};
     ghost use Rattle.s66_model.specs.DominatedLeaves.{Ending};
     ghost use Rattle.s66_model.specs.Marks.{vertices_of, AreKeptLines};
 
@@ -153,7 +153,7 @@ impl Model for KeptLines {
 
 impl KeptLines {
     ghost use Rattle.std.specs.Prelude.{◌≡◌, ◌<◌, ◌+◌, ◌++◌, [], ◌∷◌, drop, length, OnOk, OnErr};
-    ghost use Rattle.s66_model.specs.Tree.{AtTerminal};
+    ghost use Rattle.s66_model.specs.Trees.{AtTerminal};
     ghost use Rattle.s66_model.specs.DominatedLeaves.{Factual};
     ghost use Rattle.s66_model.specs.Lines.{fact_leaf_of, vertex_of, IsShort, has_dominated_line};
     ghost use Rattle.s66_model.specs.Marks.{number_count, marked};
@@ -270,7 +270,7 @@ pub struct Tree {
 
 impl Model for Tree {
     ghost use Rattle.std.specs.Prelude.{◌≡◌, List, length};
-    ghost use Rattle.s66_model.specs.Tree.{Vertex};
+    ghost use Rattle.s66_model.specs.Trees.{Vertex};
     ghost use Rattle.s66_model.specs.DominatedLeaves.{Ending};
 
     ghost Value = { List (Vertex Ending) };
@@ -345,7 +345,7 @@ pub struct TreeLines<'a> {
 
 impl<'a> Model for TreeLines<'a> {
     ghost use Rattle.std.specs.Prelude.{List};
-    ghost use Rattle.s66_model.specs.Tree.{Vertex};
+    ghost use Rattle.s66_model.specs.Trees.{Vertex};
     ghost use Rattle.s66_model.specs.DominatedLeaves.{Ending};
     ghost use Rattle.s66_model.specs.Marks.{vertices_of, HaveTheirNumbers};
 

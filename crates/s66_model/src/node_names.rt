@@ -3,7 +3,7 @@
 ghost use Rattle.std.specs.Prelude.{◌≡◌, [], ◌∷◌, Some, None, true, false};
 ghost use Rattle.s66_isa.specs.declared.instr.Kind.TheVariants.{Boolean};
 ghost use Rattle.s66_model.specs.Leaves.{Whole, Chain, Load, Parcels};
-ghost use Rattle.s66_model.specs.Tree.{Alone, Parted, NoMore, Unsplit, AtTerminal, AtSplit};
+ghost use Rattle.s66_model.specs.Trees.{Alone, Parted, NoMore, Unsplit, AtTerminal, AtSplit};
 ghost use Rattle.s66_model.specs.NodeNames.{node_named, is_node};
 ghost use Rattle.s66_model.specs.Examples.{load_tree};
 

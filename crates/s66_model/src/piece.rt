@@ -4,7 +4,7 @@ ghost use Rattle.std.specs.Prelude.{[], ◌∷◌};
 ghost use Rattle.s66_isa.specs.declared.instr.Kind.TheVariants.{Multiply};
 ghost use Rattle.s66_model.specs.declared.rule.Rule.TheVariants.{NoneNamed};
 ghost use Rattle.s66_model.specs.Leaves.{Load, Parcels};
-ghost use Rattle.s66_model.specs.Tree.{Alone};
+ghost use Rattle.s66_model.specs.Trees.{Alone};
 ghost use Rattle.s66_model.specs.Piece.{Carries, Frontier, IsPiece};
 ghost use Rattle.s66_model.specs.Examples.{load_problem, multiply_problem, load_piece, one_split, child_omitted};
 

@@ -5,7 +5,7 @@ ghost use Rattle.s66_isa.specs.declared.instr.Kind.TheVariants.{Boolean};
 ghost use Rattle.s66_model.specs.declared.rule.Rule.{Rule};
 ghost use Rattle.s66_model.specs.Timing.{Problem};
 ghost use Rattle.s66_model.specs.Leaves.{Whole, Chain, Load};
-ghost use Rattle.s66_model.specs.Tree.{Tree, Alone, Parted, NoMore, Unsplit, Split, Vertex, AtTerminal, AtSplit, flat_siblings, flat};
+ghost use Rattle.s66_model.specs.Trees.{Tree, Alone, Parted, NoMore, Unsplit, Split, Vertex, AtTerminal, AtSplit, flat_siblings, flat};
 ghost use Rattle.s66_model.specs.DominatedLeaves.{Ending, ShowsBy};
 ghost use Rattle.s66_model.specs.Piece.{Terminal, IsPiece};
 ghost use Rattle.s66_model.specs.Answer.{Answer, IsAnswer};

@@ -4,7 +4,7 @@ ghost use Rattle.std.specs.Prelude.{ℕ, List, ◌≡◌, [], ◌∷◌};
 ghost use Rattle.s66_model.specs.declared.rule.Rule.{Rule};
 ghost use Rattle.s66_model.specs.declared.rule.Rule.TheVariants.{NoneNamed};
 ghost use Rattle.s66_model.specs.Timing.{Problem};
-ghost use Rattle.s66_model.specs.Tree.{Tree, Alone, Parted, NoMore, Unsplit, Split, TreeHolds, splits, split_at, tree_values};
+ghost use Rattle.s66_model.specs.Trees.{Tree, Alone, Parted, NoMore, Unsplit, Split, TreeHolds, splits, split_at, tree_values};
 ghost use Rattle.s66_model.specs.Preorder.{TreeMatches};
 ghost use Rattle.s66_model.specs.Piece.{TerminalHolds, IsPiece};
 ghost use Rattle.s66_model.specs.Stated.{Stated, StatedLeaf, StatedFrontier, IsStatedTree, stated_values, terminal_floors, terminal_of, tree_stated};

@@ -5,7 +5,7 @@ use Rattle.s66_model.specs.declared.rule.Rule.{Rule}
 use Rattle.s66_model.specs.declared.rule.Rule.TheVariants.{NoneNamed, WrittenEarlier, ClampedStanding}
 use Rattle.s66_model.specs.Timing.{Problem, total_of}
 use Rattle.s66_model.specs.LegalOrder.{IsLegal}
-use Rattle.s66_model.specs.Tree.{Tree, Vertex, AtTerminal}
+use Rattle.s66_model.specs.Trees.{Tree, Vertex, AtTerminal}
 use Rattle.s66_model.specs.NodeNames.{node_named}
 use Rattle.s66_moments.specs.Facts.{Fact, Begins, AreSo}
 use Rattle.s66_moments.specs.FactLines.{Line, facts_after}

@@ -22,7 +22,7 @@ use Rattle.s66_moments.specs.Facts.{Fact, Arc, Before, Begins, IsNumber, AreOnce
 use Rattle.s66_moments.specs.Paths.{IsStep, Hop, IsPath, waits, Leads}
 use Rattle.s66_moments.specs.FactLines.{Use, LoadArc, fact_of, IsLateByParcels, IsLateByUnit, use_time, IsBetween, AreBetween, IsFoundedByPaths, IsTooLate, IsFounded, AreFounded, facts_after}
 use Rattle.s66_moments.specs.Networks.{Network, network, IsKnown, AreSteps, IsRising, RisesBy, HasOwnArcs, IsTransitive, HasNoRing, IsNetworkPath, targets, most_arcs, rank_by, place_by, moments_of, with_arc, with_pair, soonest_path, tail}
-use Rattle.s66_moments.specs.Known.{Known, is_front, is_back, use_of, kind_of_load, line_of, plus, span, reaches, known_first, with_line, with_loads, arcs_of, is_number, is_late_by_parcels, is_late_by_unit, is_pair_taken, are_rising, leads_up, is_used_from, is_used, are_used, is_arc_up, is_load_taken, is_taken, are_taken, known_after, next_value, is_turned}
+use Rattle.s66_moments.specs.KnownFacts.{Known, is_front, is_back, use_of, kind_of_load, line_of, plus, span, reaches, known_first, with_line, with_loads, arcs_of, is_number, is_late_by_parcels, is_late_by_unit, is_pair_taken, are_rising, leads_up, is_used_from, is_used, are_used, is_arc_up, is_load_taken, is_taken, are_taken, known_after, next_value, is_turned}
 use Rattle.s66_moments.proofs.TableArcs.{and_three, and_four, and_five, Some-same, moment-number}
 use Rattle.s66_moments.proofs.Tails.{moment-target, network-steps, network-rises_by, network-own, own-among, tail-reached, path-tail, some-arc, arc-some}
 use Rattle.s66_moments.proofs.MoreArcs.{with-steps, with-rises, with-own, with-longer, pair-known}

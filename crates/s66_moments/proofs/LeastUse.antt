@@ -3,7 +3,7 @@ use Rattle.std.proofs.Common.{ℕ, ◌+◌, ◌<◌, ◌≡◌, min, List, [], �
 use Rattle.s66_isa.specs.Lists.{least}
 use Rattle.s66_model.specs.Timing.{Problem, row_at}
 use Rattle.s66_moments.specs.FactLines.{Use}
-use Rattle.s66_moments.specs.Known.{use_of}
+use Rattle.s66_moments.specs.KnownFacts.{use_of}
 
 -- the least of low and of the amounts of these
 abbrev pub least_with : ℕ → List Use → ℕ

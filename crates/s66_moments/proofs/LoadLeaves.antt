@@ -16,7 +16,7 @@ use Rattle.s66_moments.specs.Paths.{Leads}
 use Rattle.s66_moments.specs.FactLines.{use_time, IsBetween, AreBetween, IsFounded}
 use Rattle.s66_moments.specs.LineTrees.{IsClosedByLines}
 use Rattle.s66_moments.specs.Networks.{Network, tail}
-use Rattle.s66_moments.specs.Known.{Known, use_of, kind_of_load, arcs_of, are_rising, is_left_from, is_left, is_loaded, load_of}
+use Rattle.s66_moments.specs.KnownFacts.{Known, use_of, kind_of_load, arcs_of, are_rising, is_left_from, is_left, is_loaded, load_of}
 use Rattle.s66_moments.proofs.KnownLines.{IsSound, arcs-steps, rising-once}
 use Rattle.s66_moments.proofs.NextLeaves.{tail-leads, soonest-leads, left-moment}
 

@@ -7,7 +7,7 @@ use Rattle.s66_moments.specs.declared.moment.Moment.{Moment}
 use Rattle.s66_moments.specs.Moments.{only_if}
 use Rattle.s66_moments.specs.Paths.{Hop, waits}
 use Rattle.s66_moments.specs.Networks.{Network, targets, most_arcs, IsRising, IsNetworkPath, same_moment}
-use Rattle.s66_moments.specs.Known.{later, latest, plus, span_over, span}
+use Rattle.s66_moments.specs.KnownFacts.{later, latest, plus, span_over, span}
 use Rattle.s66_moments.proofs.TableArcs.{Some-same, None-none, only_if-parts}
 use Rattle.s66_moments.proofs.Tails.{arc-some, path-short}
 use Rattle.s66_moments.proofs.MoreArcs.{same_moment-true, same_moment-self}

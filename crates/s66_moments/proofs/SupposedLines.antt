@@ -14,7 +14,7 @@ use Rattle.s66_moments.specs.Facts.{Fact as SomeFact, Arc, Before, IsNumber}
 use Rattle.s66_moments.specs.Paths.{IsStep, Leads}
 use Rattle.s66_moments.specs.Networks.{same_moment}
 use Rattle.s66_moments.specs.FactLines.{Line, fact_of, IsRefuted, AreFounded, facts_after}
-use Rattle.s66_moments.specs.Known.{Known, line_of, is_number, is_taken, are_taken, known_after, with_line, plus, span, arcs_of}
+use Rattle.s66_moments.specs.KnownFacts.{Known, line_of, is_number, is_taken, are_taken, known_after, with_line, plus, span, arcs_of}
 use Rattle.s66_moments.specs.Suppositions.{Supposition, Standing, standing_by, standing_first, with_step, standing_after, may_be_supposed, is_late_at, is_late_through, is_late_load, is_late, is_step_taken, are_steps_taken, shown_by, shown_by_all}
 use Rattle.s66_moments.proofs.TableArcs.{and_three, and_five, some-found}
 use Rattle.s66_moments.proofs.MoreArcs.{same_moment-true}

@@ -12,7 +12,7 @@ use Rattle.s66_moments.specs.Moments.{time_of}
 use Rattle.s66_moments.specs.Facts.{Fact, AreSo, IsNumber}
 use Rattle.s66_moments.specs.Networks.{IsKnown}
 use Rattle.s66_moments.specs.InUse.{ComesNoSooner}
-use Rattle.s66_moments.specs.Known.{Known, turn, issue_at_least, start_at_least}
+use Rattle.s66_moments.specs.KnownFacts.{Known, turn, issue_at_least, start_at_least}
 use Rattle.s66_model.proofs.LegalOrders.{GoesOn-append, sum_remaining-run}
 use Rattle.s66_model.proofs.Remaining.{remaining-parts, legal-parts}
 use Rattle.s66_model.proofs.PointTimes.{points_after-append, next-le-issue, next-grows}

@@ -5,6 +5,6 @@ pub mod FactLines
 pub mod InUse
 pub mod LineTrees
 pub mod Networks
-pub mod Known
+pub mod KnownFacts
 pub mod Suppositions
 pub mod Examples

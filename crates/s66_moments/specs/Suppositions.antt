@@ -11,7 +11,7 @@ use Rattle.s66_moments.specs.declared.fact_line.FactStep.TheVariants.{Fact, Supp
 use Rattle.s66_moments.specs.FactLines.{Line, Supposed}
 use Rattle.s66_moments.specs.declared.fact_line.KnownArc.{KnownArc}
 use Rattle.s66_moments.specs.Networks.{Network, same_moment, with_pair}
-use Rattle.s66_moments.specs.Known.{Known, known_first, with_line, line_of, is_number, is_taken, arcs_of, plus, span, reaches}
+use Rattle.s66_moments.specs.KnownFacts.{Known, known_first, with_line, line_of, is_number, is_taken, arcs_of, plus, span, reaches}
 
 -- it begins a supposition
 abbrev pub begins : FactStep → Bool

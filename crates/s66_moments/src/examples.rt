@@ -8,7 +8,7 @@ ghost use Rattle.s66_model.specs.declared.rule.Rule.TheVariants.{NoneNamed, Writ
 ghost use Rattle.s66_model.specs.Timing.{total_of};
 ghost use Rattle.s66_model.specs.BestAndBound.{IsBound};
 ghost use Rattle.s66_model.specs.Leaves.{Load, chain};
-ghost use Rattle.s66_model.specs.Tree.{Alone};
+ghost use Rattle.s66_model.specs.Trees.{Alone};
 ghost use Rattle.s66_model.specs.Dominance.{DominatesClamped};
 ghost use Rattle.s66_model.specs.Examples.{
   standard_problem,

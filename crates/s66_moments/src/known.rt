@@ -14,7 +14,7 @@ ghost use Rattle.s66_moments.specs.Networks.{Network, IsKnown, AreSteps, IsRisin
 ghost use Rattle.s66_moments.specs.FactLines.{IsTooLate, AreFounded, facts_after};
 ghost use Rattle.s66_moments.specs.InUse.{ComesNoSooner};
 ghost use Rattle.s66_moments.specs.LineTrees.{IsClosedByLines};
-ghost use Rattle.s66_moments.specs.Known.{line_of, later, latest, plus, span, known_first, known_after, arcs_of, are_taken, next_value, is_turned, is_loaded, load_of, issue_at_least, start_at_least};
+ghost use Rattle.s66_moments.specs.KnownFacts.{line_of, later, latest, plus, span, known_first, known_after, arcs_of, are_taken, next_value, is_turned, is_loaded, load_of, issue_at_least, start_at_least};
 
 /// A span is how long some path takes, and if no arcs form a ring none takes longer. So it is the latest of the arcs from its first
 /// moment, each with the span from where it leads, and of the arcs to its last one, each with the span to where it comes from.

@@ -6,7 +6,7 @@ ghost use Rattle.s66_model.specs.declared.rule.Rule.{Rule};
 ghost use Rattle.s66_model.specs.Timing.{Problem, total_of};
 ghost use Rattle.s66_model.specs.LegalOrder.{IsLegal, is_remaining};
 ghost use Rattle.s66_model.specs.BestAndBound.{IsBound};
-ghost use Rattle.s66_model.specs.Tree.{Tree};
+ghost use Rattle.s66_model.specs.Trees.{Tree};
 ghost use Rattle.s66_moments.specs.declared.moment.Stage.{Stage};
 ghost use Rattle.s66_moments.specs.declared.moment.Stage.TheVariants.{Issue, Start};
 ghost use Rattle.s66_moments.specs.declared.moment.Moment.TheVariants.{At};

@@ -14,7 +14,7 @@ ghost use Rattle.s66_moments.specs.Networks.{IsKnown, AreSteps, IsRising, HasOwn
 ghost use Rattle.s66_moments.specs.FactLines.{IsTooLate, AreFounded, facts_after};
 ghost use Rattle.s66_moments.specs.InUse.{ComesNoSooner};
 ghost use Rattle.s66_moments.specs.LineTrees.{IsClosedByLines};
-ghost use Rattle.s66_moments.specs.Known.{Known, line_of, span, known_after, arcs_of, are_taken, next_value, is_turned, is_loaded, load_of, issue_at_least, start_at_least};
+ghost use Rattle.s66_moments.specs.KnownFacts.{Known, line_of, span, known_after, arcs_of, are_taken, next_value, is_turned, is_loaded, load_of, issue_at_least, start_at_least};
 ghost use Rattle.s66_moments.specs.Suppositions.{standing_by, standing_first, standing_after, are_steps_taken, shown_by_all};
 
 /// If each of these steps is taken, what they show is founded. The arcs of what is known after them form no ring, and lack none of an

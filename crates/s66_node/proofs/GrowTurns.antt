@@ -5,7 +5,7 @@ use Rattle.s66_model.specs.declared.rule.Rule.{Rule}
 use Rattle.s66_model.specs.declared.rule.Rule.TheVariants.{NoneNamed, WrittenEarlier}
 use Rattle.s66_model.specs.Timing.{Problem}
 use Rattle.s66_model.specs.LegalOrder.{IsBeginning, is_ready}
-use Rattle.s66_model.specs.Tree.{Tree, Alone, Vertex, AtTerminal}
+use Rattle.s66_model.specs.Trees.{Tree, Alone, Vertex, AtTerminal}
 use Rattle.s66_model.specs.Piece.{Terminal, Frontier, Passed}
 use Rattle.s66_isa.specs.Members.{numbers_in}
 use Rattle.s66_node.specs.Walked.{front}

@@ -4,7 +4,7 @@ use Rattle.std.proofs.lemmas.List.{append-nil}
 use Rattle.s66_isa.specs.declared.instr.Instr.{Instr}
 use Rattle.s66_isa.specs.Lists.{Among}
 use Rattle.s66_model.specs.LegalOrder.{ready, IsIncomplete}
-use Rattle.s66_model.specs.Tree.{Tree, Alone, Parted, Siblings, NoMore, Unsplit, Split, AtTerminal, AtSplit, SiblingsHold, TreeHolds, flat_siblings, flat, sibling_splits, splits, sibling_values, tree_values, siblings_split_at, split_at}
+use Rattle.s66_model.specs.Trees.{Tree, Alone, Parted, Siblings, NoMore, Unsplit, Split, AtTerminal, AtSplit, SiblingsHold, TreeHolds, flat_siblings, flat, sibling_splits, splits, sibling_values, tree_values, siblings_split_at, split_at}
 use Rattle.s66_node.specs.Walked.{front}
 use Rattle.s66_node.proofs.Leasts.{among-either}
 use Rattle.s66_node.specs.Growing.{SiblingsGrow, TreeGrows, RestsGrow, sibling_prefixes, tree_prefixes, flat_rests, rest_prefixes, rest_values, rests_split_at, Part, Grows}

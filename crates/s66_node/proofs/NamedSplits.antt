@@ -7,7 +7,7 @@ use Rattle.s66_isa.specs.declared.instr.Instr.{Instr}
 use Rattle.s66_isa.specs.Lists.{Among, rising}
 use Rattle.s66_isa.proofs.Lists.{among-front, among-rest}
 use Rattle.s66_model.specs.LegalOrder.{is_ready, ready}
-use Rattle.s66_model.specs.Tree.{Tree, Alone, Parted, Siblings, NoMore, Unsplit, Split, AtTerminal, SiblingsHold, TreeHolds, flat_siblings, flat, siblings_split_at, split_at}
+use Rattle.s66_model.specs.Trees.{Tree, Alone, Parted, Siblings, NoMore, Unsplit, Split, AtTerminal, SiblingsHold, TreeHolds, flat_siblings, flat, siblings_split_at, split_at}
 use Rattle.s66_model.specs.NodeNames.{sibling_at, node_named, is_node}
 use Rattle.s66_node.proofs.Leasts.{among-either}
 use Rattle.s66_model.proofs.LongestChain.{Rises-among}

@@ -4,7 +4,7 @@ use Rattle.s66_isa.specs.Lists.{Among}
 use Rattle.s66_model.specs.declared.rule.Rule.{Rule}
 use Rattle.s66_model.specs.declared.rule.Rule.TheVariants.{NoneNamed, WrittenEarlier, ClampedStanding}
 use Rattle.s66_model.specs.Timing.{Problem}
-use Rattle.s66_model.specs.Tree.{Tree, Alone, AtTerminal, TreeHolds, flat, splits, split_at}
+use Rattle.s66_model.specs.Trees.{Tree, Alone, AtTerminal, TreeHolds, flat, splits, split_at}
 use Rattle.s66_model.specs.DominatedLeaves.{DominatesByRule}
 use Rattle.s66_model.specs.Piece.{Terminal, Carries, Frontier, Passed, TerminalHolds, IsNamedIn, IsPiece}
 use Rattle.s66_model.specs.Expansion.{TerminalHoldsWhile, IsExpansion}

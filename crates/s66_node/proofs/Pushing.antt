@@ -5,7 +5,7 @@ use Rattle.s66_model.specs.declared.rule.Rule.{Rule}
 use Rattle.s66_model.specs.Timing.{Problem}
 use Rattle.s66_model.specs.Leaves.{floor_value}
 use Rattle.s66_model.specs.LegalOrder.{ready}
-use Rattle.s66_model.specs.Tree.{Vertex, AtTerminal, AtSplit}
+use Rattle.s66_model.specs.Trees.{Vertex, AtTerminal, AtSplit}
 use Rattle.s66_model.specs.Piece.{Terminal, Frontier, Passed}
 use Rattle.s66_node.specs.declared.name.Dominance.{Dominance}
 use Rattle.s66_node.specs.declared.node.Node.{Node}

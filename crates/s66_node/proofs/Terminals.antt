@@ -10,7 +10,7 @@ use Rattle.s66_model.specs.LegalOrder.{IsBeginning, IsComplete, IsLegal}
 use Rattle.s66_model.specs.Leaves.{Leaf, Whole, Chain, Load, Parcels, value, longest_chain, first_greatest, after_chain, floor}
 use Rattle.s66_model.specs.Piece.{Terminal, Carries, Frontier, Passed, TerminalHolds, IsNamedIn}
 use Rattle.s66_model.specs.Expansion.{TerminalHoldsWhile, whole_at}
-use Rattle.s66_model.specs.Tree.{Tree}
+use Rattle.s66_model.specs.Trees.{Tree}
 use Rattle.s66_model.proofs.LegalOrders.{order-legal}
 use Rattle.s66_model.proofs.Floors.{floor-part, floor-whole}
 use Rattle.s66_node.specs.declared.whole_order.WholeOrder.{WholeOrder}

@@ -8,7 +8,7 @@ use Rattle.s66_model.specs.declared.rule.Rule.{Rule}
 use Rattle.s66_model.specs.declared.rule.Rule.TheVariants.{WrittenEarlier}
 use Rattle.s66_model.specs.Timing.{Problem}
 use Rattle.s66_model.specs.LegalOrder.{IsBeginning, is_ready, ready}
-use Rattle.s66_model.specs.Tree.{Tree, Alone, Parted, Vertex, AtTerminal, AtSplit, TreeHolds, flat, splits, split_at, tree_values}
+use Rattle.s66_model.specs.Trees.{Tree, Alone, Parted, Vertex, AtTerminal, AtSplit, TreeHolds, flat, splits, split_at, tree_values}
 use Rattle.s66_model.proofs.Remaining.{step-begins, ready-among}
 use Rattle.s66_isa.specs.Members.{numbers_in}
 use Rattle.s66_isa.proofs.Sets.{numbers_in-few}

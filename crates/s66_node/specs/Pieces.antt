@@ -2,7 +2,7 @@
 use Rattle.std.specs.Prelude.{ℕ, ◌≡◌, List, Option, None, Some}
 use Rattle.s66_model.specs.declared.rule.Rule.{Rule}
 use Rattle.s66_model.specs.Timing.{Problem}
-use Rattle.s66_model.specs.Tree.{Tree, Vertex, flat, splits}
+use Rattle.s66_model.specs.Trees.{Tree, Vertex, flat, splits}
 use Rattle.s66_model.specs.Preorder.{read_tree}
 use Rattle.s66_model.specs.Piece.{Terminal, Frontier, IsPiece}
 use Rattle.s66_model.specs.Expansion.{IsBestWhole, IsExpansion}

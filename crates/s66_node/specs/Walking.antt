@@ -7,7 +7,7 @@ use Rattle.s66_model.specs.declared.rule.Rule.TheVariants.{WrittenEarlier}
 use Rattle.s66_model.specs.Timing.{Problem, total_of}
 use Rattle.s66_model.specs.LegalOrder.{IsBeginning, IsComplete, IsIncomplete, IsLegal, is_ready, ready}
 use Rattle.s66_model.specs.Leaves.{floor, floor_value}
-use Rattle.s66_model.specs.Tree.{Tree, Alone, Vertex, AtTerminal, flat, splits, split_at, tree_values}
+use Rattle.s66_model.specs.Trees.{Tree, Alone, Vertex, AtTerminal, flat, splits, split_at, tree_values}
 use Rattle.s66_model.specs.DominatedLeaves.{DominatesByRule}
 use Rattle.s66_model.specs.Piece.{Terminal, Carries, Frontier, Passed}
 use Rattle.s66_model.specs.Expansion.{whole_at}

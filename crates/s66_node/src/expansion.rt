@@ -3,9 +3,9 @@
 
 ghost use Rattle.std.specs.Prelude.{◌≡◌, ℕ, List, IfOk};
 ghost use Rattle.std.specs.Option.{option_map};
-ghost use Rattle.s66_line.specs.Block.{instrs_of};
+ghost use Rattle.s66_line.specs.Blocks.{instrs_of};
 ghost use Rattle.s66_model.specs.Timing.{Problem};
-ghost use Rattle.s66_model.specs.Tree.{Tree};
+ghost use Rattle.s66_model.specs.Trees.{Tree};
 ghost use Rattle.s66_model.specs.Piece.{Terminal};
 ghost use Rattle.s66_model.specs.Expansion.{whole_orders};
 ghost use Rattle.s66_node.specs.Pieces.{IsBestTimed};

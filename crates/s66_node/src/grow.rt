@@ -8,7 +8,7 @@ ghost use Rattle.std.specs.Prelude.{◌≡◌, ◌≤◌, ◌++◌, ◌⊎◌, [
 ghost use Rattle.s66_isa.specs.Lists.{Among};
 ghost use Rattle.s66_model.specs.declared.rule.Rule.TheVariants.{NoneNamed, WrittenEarlier};
 ghost use Rattle.s66_model.specs.Leaves.{floor_value};
-ghost use Rattle.s66_model.specs.Tree.{Tree};
+ghost use Rattle.s66_model.specs.Trees.{Tree};
 ghost use Rattle.s66_model.specs.Piece.{Terminal};
 ghost use Rattle.s66_model.specs.Expansion.{whole_at};
 ghost use Rattle.s66_node.specs.Walking.{Span, span, IsDue, IsFound, IsOpen, IsLeast, IsGrown, IsEmpty, IsValued, terminal_by};

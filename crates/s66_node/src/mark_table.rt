@@ -72,7 +72,7 @@ pub struct MarkTable<'a> {
 
 impl<'a> Model for MarkTable<'a> {
     ghost use Rattle.std.specs.Prelude.{map};
-    ghost use Rattle.s66_line.specs.Block.{instrs_of};
+    ghost use Rattle.s66_line.specs.Blocks.{instrs_of};
     ghost use Rattle.s66_node.specs.MarkTables.{MarkTable, AreEntries, numbers_of};
 
     ghost Value = { MarkTable };
@@ -283,7 +283,7 @@ impl<'a> MarkTable<'a> {
     ghost use Rattle.s66_isa.specs.Members.{numbers_in};
     ghost use Rattle.s66_isa.specs.Lists.{Among, has};
     ghost use Rattle.s66_time.specs.Marks.{IsMarkOf};
-    ghost use Rattle.s66_line.specs.Block.{instrs_of};
+    ghost use Rattle.s66_line.specs.Blocks.{instrs_of};
     ghost use Rattle.s66_model.specs.declared.rule.Rule.TheVariants.{WrittenEarlier};
     ghost use Rattle.s66_model.specs.LegalOrder.{IsIncomplete};
     ghost use Rattle.s66_model.specs.DominatedLeaves.{DominatesByRule};

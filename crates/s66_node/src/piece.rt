@@ -52,8 +52,8 @@ impl Piece {
     ghost use Rattle.std.specs.Prelude.{◌≡◌, ◌≤◌, ◌↔◌, IsTrue, length, map};
     ghost use Rattle.s66_isa.specs.declared.limits.TheConstants.{BLOCK_LIMIT};
     ghost use Rattle.std.specs.Option.{option_copied};
-    ghost use Rattle.s66_line.specs.Block.{instrs_of};
-    ghost use Rattle.s66_model.specs.Tree.{splits};
+    ghost use Rattle.s66_line.specs.Blocks.{instrs_of};
+    ghost use Rattle.s66_model.specs.Trees.{splits};
     ghost use Rattle.s66_node.specs.Nodes.{named};
     ghost use Rattle.s66_node.specs.Pieces.{tree_of, IsBestTimed, AreTreeNodes};
 

@@ -3,12 +3,12 @@ use Rattle.std.proofs.Common.{◌≡◌, ℕ, ◌+◌, ◌-◌, ◌<◌, ◌≤�
 use Rattle.atomic_table.specs.Table.{Me}
 use Rattle.atomic_table.specs.Seated.{TableId}
 use Rattle.s66_isa.specs.Lists.{weigh}
-use Rattle.s66_model.specs.Ledger as model
-use Rattle.s66_model.specs.Ledger.{Event, Reply, Back, Returned, NotOut, Offer, worker}
+use Rattle.s66_model.specs.LedgerRuns as model
+use Rattle.s66_model.specs.LedgerRuns.{Event, Reply, Back, Returned, NotOut, Offer, worker}
 use Rattle.s66_model.specs.Recorded.{IsGraftOf, IsOfferOf, IsOwn, IsOwnPiece, TreeOpens, graft_event, spends}
 use Rattle.s66_model.specs.declared.rule.Rule.{Rule}
 use Rattle.s66_model.specs.Timing.{Problem, total_of}
-use Rattle.s66_model.specs.Tree.{Tree, splits}
+use Rattle.s66_model.specs.Trees.{Tree, splits}
 use Rattle.s66_model.specs.Piece.{Terminal}
 use Rattle.s66_model.specs.Accounts.{Summary, SeatRecord, Account, Agrees, opened, account_at, after_event, least_after, no_account}
 use Rattle.s66_node.specs.Pieces.{PieceOf, tree_of}

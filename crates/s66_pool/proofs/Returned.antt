@@ -3,7 +3,7 @@ use Rattle.std.proofs.Common.{ℕ, zero, suc, ◌+◌, ◌≤◌, ◌<◌, ◌�
 use Rattle.std.proofs.lemmas.Bool.{cases_eq, eq-eqb, or_left, or_right}
 use Rattle.std.proofs.lemmas.List.{length-map}
 use Rattle.s66_isa.specs.Lists.{some_of, rising}
-use Rattle.s66_model.specs.Ledger.{best_time}
+use Rattle.s66_model.specs.LedgerRuns.{best_time}
 use Rattle.s66_model.specs.Accounts.{Summary, account_of, opened}
 use Rattle.s66_model.proofs.Beginnings.{length-rising}
 use Rattle.s66_ledger.specs.Ledgers.{LedgerOf, account_summary, events_of}

@@ -2,7 +2,7 @@
 use Rattle.std.proofs.Common.{◌≡◌, ℕ, ◌≤◌, Bool, List, [], ◌∷◌, ◌++◌, Option, None, sym, refl, ap, ◌∙◌, subst, arith}
 use Rattle.atomic_table.specs.Table.{Me}
 use Rattle.s66_model.specs.Timing.{Problem}
-use Rattle.s66_model.specs.Ledger.{Event, Reply, Offer, Lower, NotLower, worker, best_time}
+use Rattle.s66_model.specs.LedgerRuns.{Event, Reply, Offer, Lower, NotLower, worker, best_time}
 use Rattle.s66_model.specs.Accounts.{Summary, SeatRecord, Agrees, summary_of, opened, after_event, least_after}
 use Rattle.s66_model.proofs.AccountLaws.{agrees-own, agrees-other, accounts-count}
 use Rattle.s66_model.proofs.LedgerRuns.{step-falls}

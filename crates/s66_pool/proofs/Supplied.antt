@@ -1,9 +1,9 @@
 -- What the events of a turn at the lock make of the ledger's summary, and of the seat record of the worker whose turn it is.
 use Rattle.std.proofs.Common.{◌≡◌, ℕ, ◌+◌, Bool, true, false, List, [], ◌∷◌, ◌++◌, Option, Some, None, sym, refl, ap, ◌∙◌, subst, arith}
-use Rattle.s66_model.specs.Ledger as model
-use Rattle.s66_model.specs.Ledger.{Event, Reply, Claim, Claimed, worker}
+use Rattle.s66_model.specs.LedgerRuns as model
+use Rattle.s66_model.specs.LedgerRuns.{Event, Reply, Claim, Claimed, worker}
 use Rattle.s66_model.specs.Recorded.{spends}
-use Rattle.s66_model.specs.Tree.{splits}
+use Rattle.s66_model.specs.Trees.{splits}
 use Rattle.s66_model.specs.Accounts.{SeatRecord, Agrees, after_event, least_after}
 use Rattle.s66_node.specs.Pieces.{PieceOf, tree_of}
 use Rattle.s66_model.specs.Tickets.{TicketOf}

@@ -2,8 +2,8 @@
 use Rattle.std.specs.Prelude.{ℕ, ⊤, ◌≡◌, ◌≤◌, ◌==◌, true, List}
 use Rattle.atomic_table.specs.Seated.{TableId}
 use Rattle.s66_isa.specs.Lists.{some_of}
-use Rattle.s66_model.specs.Ledger as model
-use Rattle.s66_model.specs.Ledger.{Event, Reply}
+use Rattle.s66_model.specs.LedgerRuns as model
+use Rattle.s66_model.specs.LedgerRuns.{Event, Reply}
 use Rattle.s66_model.specs.Recorded.{IsGraftOf, IsOfferOf}
 use Rattle.s66_model.specs.Accounts.{Summary, SeatRecord, after_event}
 use Rattle.s66_node.specs.Pieces.{PieceOf, tree_of}

@@ -2,7 +2,7 @@
 use Rattle.std.specs.Prelude.{ℕ, ◌≡◌, ◌<◌, ◌≤◌, All, List, Vec, length, map, slice_index_or}
 use Rattle.std.specs.declared.alloc.Global.{Global}
 use Rattle.s66_model.specs.Timing.{Problem, total_of}
-use Rattle.s66_model.specs.Ledger.{best_time}
+use Rattle.s66_model.specs.LedgerRuns.{best_time}
 use Rattle.s66_share.specs.Lanes.{LaneId, LaneOf}
 use Rattle.s66_time.specs.TimedOrder.{TimedOrder}
 use Rattle.s66_ledger.specs.Ledgers.{LedgerOf}

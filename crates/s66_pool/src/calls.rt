@@ -11,7 +11,7 @@ use std::sync::Wait;
 
 impl<'a> Hub<'a> {
     ghost use Rattle.std.specs.Prelude.{◌≡◌, ◌≤◌, [], IfOk, IfErr, OnOk, OnErr};
-    ghost use Rattle.s66_model.specs.Ledger.{Grant, Granted, Back, Returned, NotOut, Retire, Retired};
+    ghost use Rattle.s66_model.specs.LedgerRuns.{Grant, Granted, Back, Returned, NotOut, Retire, Retired};
     ghost use Rattle.s66_model.specs.Accounts.{after_event, after_reading};
     ghost use Rattle.s66_ledger.specs.Replies.{offered_reply};
     ghost use Rattle.s66_ledger.specs.declared.reply.BackError.TheVariants as refused;

@@ -31,7 +31,7 @@ impl<'s, 'b, R> Model for Expander<'s, 'b, R> {
 
 impl<'s, 'b, R: Wait> Expander<'s, 'b, R> {
     ghost use Rattle.std.specs.Prelude.{◌≡◌, ◌≤◌, IfSome};
-    ghost use Rattle.s66_model.specs.Tree.{splits};
+    ghost use Rattle.s66_model.specs.Trees.{splits};
     ghost use Rattle.s66_node.specs.Pieces.{tree_of};
 
     /// One that has expanded nothing yet, and knows the nodes that all workers have grafted.

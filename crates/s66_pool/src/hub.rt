@@ -39,7 +39,7 @@ pub struct SeatsMissing;
 impl<'a> Hub<'a> {
     ghost use Rattle.std.specs.Prelude.{◌≡◌, ◌≤◌, All, length, map, IfOk, IfErr};
     ghost use Rattle.s66_isa.specs.Lists.{weigh, rising};
-    ghost use Rattle.s66_model.specs.Ledger.{best_time};
+    ghost use Rattle.s66_model.specs.LedgerRuns.{best_time};
     ghost use Rattle.s66_model.specs.Accounts.{Agrees, opened};
     ghost use Rattle.s66_ledger.specs.Ledgers.{account_summary};
     ghost use Rattle.s66_pool.specs.Hubs.{HaveSeats};

@@ -41,8 +41,8 @@ impl<'a> Model for LoneSearch<'a> {
 
 impl<'a> LoneSearch<'a> {
     ghost use Rattle.std.specs.Prelude.{◌≡◌, ◌≤◌, ◌↔◌, IsTrue, IfOk, OnOk};
-    ghost use Rattle.s66_line.specs.Block.{instrs_of};
-    ghost use Rattle.s66_model.specs.Ledger.{best_time};
+    ghost use Rattle.s66_line.specs.Blocks.{instrs_of};
+    ghost use Rattle.s66_model.specs.LedgerRuns.{best_time};
     ghost use Rattle.s66_model.specs.Coverage.{IsFinished, bound_of};
     ghost use Rattle.s66_ledger.specs.Answers.{answer_of};
     ghost use Rattle.s66_pool.specs.Workers.{LedgerGoesOn, HasTaken};

@@ -4,7 +4,7 @@
 ghost use Rattle.std.specs.Prelude.{ℕ, [], ◌≡◌, ◌≤◌, ◌==◌, ◌-◌, ◌↔◌, length, slice_index_or, IfOk, IsTrue, if◌then◌else◌};
 ghost use Rattle.s66_isa.specs.Lists.{some_of};
 ghost use Rattle.s66_model.specs.Timing.{Problem};
-ghost use Rattle.s66_model.specs.Ledger.{worker};
+ghost use Rattle.s66_model.specs.LedgerRuns.{worker};
 ghost use Rattle.s66_model.specs.Recorded.{spends};
 ghost use Rattle.s66_model.specs.Accounts.{account_at};
 ghost use Rattle.s66_ledger.specs.HistoryEntries.{entry_of};

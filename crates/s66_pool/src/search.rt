@@ -2,7 +2,7 @@
 //! again.
 
 ghost use Rattle.std.specs.Prelude.{◌≡◌, ◌≤◌, IfOk};
-ghost use Rattle.s66_line.specs.Block.{instrs_of};
+ghost use Rattle.s66_line.specs.Blocks.{instrs_of};
 ghost use Rattle.s66_pool.specs.Workers.{LedgerGoesOn};
 
 use crate::crew::work;

@@ -1,7 +1,7 @@
 //! The marks of the nodes that all workers of a search have grafted, in parts, each of which one worker at a time may use.
 
 ghost use Rattle.std.specs.Prelude.{◌≡◌, ◌<◌, All, length, IfOk};
-ghost use Rattle.s66_line.specs.Block.{instrs_of};
+ghost use Rattle.s66_line.specs.Blocks.{instrs_of};
 
 use atomic_table::{Play, Refused, Seat, Table, TableRule};
 use s66_isa::{Profile, Set};
@@ -99,7 +99,7 @@ pub(crate) struct SharedMarks<'b> {
 
 impl<'b> SharedMarks<'b> {
     ghost use Rattle.std.specs.Prelude.{ℕ, ◌≡◌, ◌<◌, IfOk, IfSome};
-    ghost use Rattle.s66_line.specs.Block.{instrs_of};
+    ghost use Rattle.s66_line.specs.Blocks.{instrs_of};
     ghost use Rattle.s66_isa.specs.Members.{numbers_in};
     ghost use Rattle.s66_isa.specs.Lists.{has};
     ghost use Rattle.s66_time.specs.Marks.{IsMarkOf};

@@ -83,7 +83,7 @@ pub(crate) fn work_at<'a, R: AllocGlobal + Wait, G: Gate>(
 
 impl<'s, 'b, R: AllocGlobal + Wait> Worker<'s, 'b, R> {
     ghost use Rattle.std.specs.Prelude.{◌≡◌, ◌≤◌};
-    ghost use Rattle.s66_model.specs.Tree.{splits};
+    ghost use Rattle.s66_model.specs.Trees.{splits};
     ghost use Rattle.s66_node.specs.Pieces.{tree_of};
     ghost use Rattle.s66_pool.specs.Workers.{IsSameMember, IsSameSeat};
 

@@ -1,7 +1,7 @@
 -- What is found by answers to blocks is of these blocks.
 use Rattle.std.proofs.Common.{ℕ, ◌+◌, List, [], ◌∷◌, refl}
 use Rattle.s66_isa.specs.declared.profile.Profile.{Profile}
-use Rattle.s66_line.specs.Block.{Block}
+use Rattle.s66_line.specs.Blocks.{Block}
 use Rattle.s66_model.specs.declared.rule.Rule.{Rule}
 use Rattle.s66_command.specs.declared.strategy.Strategy.{Strategy}
 use Rattle.s66_views.specs.FoundOrders.{AreOf}

@@ -8,7 +8,7 @@ use Rattle.s66_source.specs.LeftAlone.{Flagged, Reading, after_line, at_first, c
 use Rattle.s66_source.specs.LeftAlone.{Standing}
 use Rattle.s66_source.proofs.CutLaw.{none-refused}
 use Rattle.s66_source.specs.Source.{blocks_of, classed_lines, classes_from, label_after, operand_refusal, or_else, place_after, refusal, run_after, source_of, unless_refused}
-use Rattle.s66_line.specs.Class.{is_code}
+use Rattle.s66_line.specs.Classes.{is_code}
 use Rattle.s66_source.specs.declared.error.SourceError.{SourceError}
 use Rattle.s66_source.specs.declared.error.SourceError.TheVariants.{LineTooLong, TooLarge}
 use Rattle.s66_line.specs.declared.limits.TheConstants.{LINE_BYTES_LIMIT}

@@ -4,7 +4,7 @@ use Rattle.std.specs.Prelude.{Ok, is_none}
 use Rattle.std.proofs.lemmas.List.{length-map}
 use Rattle.s66_isa.specs.Lists.{Among, every}
 use Rattle.s66_isa.specs.declared.profile.Profile.{Profile}
-use Rattle.s66_line.specs.Block.{Block, Entry, instrs_of}
+use Rattle.s66_line.specs.Blocks.{Block, Entry, instrs_of}
 use Rattle.s66_command.specs.declared.command.OrderStyle.{OrderStyle}
 use Rattle.s66_command.specs.declared.strategy.Strategy.{Strategy}
 use Rattle.s66_answer.specs.declared.outcome.Status.{Status}

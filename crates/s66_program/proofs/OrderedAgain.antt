@@ -6,7 +6,7 @@ use Rattle.s66_isa.specs.Lists.{rising}
 use Rattle.s66_isa.specs.Table.{numbers}
 use Rattle.s66_isa.specs.declared.instr.Instr.{Instr}
 use Rattle.s66_isa.specs.declared.profile.Profile.{Profile}
-use Rattle.s66_line.specs.Block.{Entry, Block, instrs_of}
+use Rattle.s66_line.specs.Blocks.{Entry, Block, instrs_of}
 use Rattle.s66_source.specs.Replaced.{AreGiven}
 use Rattle.s66_source.specs.LeftAlone.{Reading}
 use Rattle.s66_source.specs.Printed.{Placed}

@@ -5,7 +5,7 @@ use Rattle.s66_isa.specs.declared.instr.Instr.{Instr}
 use Rattle.s66_isa.specs.declared.profile.Profile.{Profile}
 use Rattle.s66_isa.specs.Lists.{Among}
 use Rattle.s66_source.specs.declared.error.SourceError.{SourceError}
-use Rattle.s66_line.specs.Block.{instrs_of, Entry, Block}
+use Rattle.s66_line.specs.Blocks.{instrs_of, Entry, Block}
 use Rattle.s66_source.specs.Printed.{ArePlaced}
 use Rattle.s66_source.specs.Source.{unless_refused}
 use Rattle.s66_command.specs.declared.strategy.Strategy.{Strategy}

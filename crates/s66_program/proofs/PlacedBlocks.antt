@@ -5,7 +5,7 @@ use Rattle.std.proofs.lemmas.List.{length-map}
 use Rattle.s66_isa.specs.Lists.{Among}
 use Rattle.s66_isa.specs.Table.{numbers}
 use Rattle.s66_isa.proofs.Lists.{among-rising}
-use Rattle.s66_line.specs.Block.{Block, Entry, instrs_of}
+use Rattle.s66_line.specs.Blocks.{Block, Entry, instrs_of}
 use Rattle.s66_source.specs.Printed.{ArePlaced, Placed}
 
 -- numbers of the source order are of the block

@@ -1,7 +1,7 @@
 -- To be believed: what is written below a block's best order: sentences that say why no order is faster.
 use Rattle.std.specs.Prelude.{ℕ, ◌==◌, if◌then◌else◌, List, []}
 use Rattle.s66_isa.specs.declared.profile.Profile.{Profile}
-use Rattle.s66_line.specs.Block.{Block}
+use Rattle.s66_line.specs.Blocks.{Block}
 use Rattle.s66_model.specs.declared.rule.Rule.{Rule}
 use Rattle.s66_reasons.specs.Reasons.{reasons_text}
 use Rattle.s66_answer.specs.Answers.{Answer, document_under}

@@ -5,7 +5,7 @@ use Rattle.s66_isa.specs.declared.profile.Profile.{Profile}
 use Rattle.s66_why.specs.Chart.{chart_text}
 use Rattle.s66_why.specs.Reservations.{units_chart}
 use Rattle.s66_why.specs.TextChart.{text_chart}
-use Rattle.s66_line.specs.Block.{instrs_of, Block}
+use Rattle.s66_line.specs.Blocks.{instrs_of, Block}
 use Rattle.s66_time.specs.TimedOrder.{TimedOrder}
 use Rattle.s66_source.specs.LeftAlone.{Reading}
 use Rattle.s66_answer.specs.declared.outcome.Status.{Status}

@@ -5,7 +5,7 @@ use Rattle.s66_isa.specs.declared.instr.Instr.{Instr}
 use Rattle.s66_isa.specs.Lists.{after_blanks, weigh}
 use Rattle.s66_isa.specs.Table.{instr_at, numbers}
 use Rattle.s66_model.specs.Dependence.{needs, all_needs}
-use Rattle.s66_line.specs.Block.{instrs_of, text_of, Block}
+use Rattle.s66_line.specs.Blocks.{instrs_of, text_of, Block}
 use Rattle.s66_source.specs.LeftAlone.{Reading}
 use Rattle.s66_why.specs.Hazards.{hazards, hazards_text}
 use Rattle.s66_answer.specs.declared.outcome.Status.{Status}

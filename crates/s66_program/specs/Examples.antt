@@ -2,11 +2,11 @@
 -- what `decimal` computes by
 unfoldable pub use Rattle.std.specs.Fmt.{digits}
 use Rattle.std.specs.Prelude.{ℕ, List, [], ◌∷◌, ◌++◌, None, codes}
-use Rattle.s66_line.specs.Block.{Block}
+use Rattle.s66_line.specs.Blocks.{Block}
 use Rattle.s66_source.specs.LeftAlone.{plain}
 use Rattle.s66_source.specs.Source.{blocks_of, classed_lines}
 use Rattle.s66_model.specs.Leaves.{Chain}
-use Rattle.s66_model.specs.Tree.{Alone}
+use Rattle.s66_model.specs.Trees.{Alone}
 use Rattle.s66_model.specs.DominatedLeaves.{Bounding}
 use Rattle.s66_answer.specs.Answers.{Answer}
 

@@ -1,7 +1,7 @@
 -- To be believed: the loops of a source that branches behind its blocks close, and how many words each takes.
 use Rattle.std.specs.Prelude.{ℕ, suc, Bool, true, false, not, ◌+◌, ◌-◌, ◌*◌, ◌||◌, ◌==◌, if◌then◌else◌, List, [], ◌∷◌, Option, None, Some, drop, get_or, nat_lt, reverse, slice_get, take}
 use Rattle.s66_isa.specs.Table.{numbers}
-use Rattle.s66_line.specs.Block.{Block, instrs_of}
+use Rattle.s66_line.specs.Blocks.{Block, instrs_of}
 use Rattle.s66_model.specs.Packing.{fits_at}
 use Rattle.s66_source.specs.Frame.{FramePart, frame_of}
 use Rattle.s66_source.specs.LeftAlone.{Reading}

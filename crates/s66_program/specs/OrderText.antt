@@ -1,7 +1,7 @@
 -- To be believed: what `order` writes for a source, and how it ends: for each block that is shown an answer, of which there may be several.
 use Rattle.std.specs.Prelude.{ℕ, suc, ◌≡◌, ◌==◌, ◌&&◌, if◌then◌else◌, Bool, true, List, [], ◌∷◌, ◌++◌, Option, Some, None, replicate}
 use Rattle.s66_isa.specs.declared.profile.Profile.{Profile}
-use Rattle.s66_line.specs.Block.{Block}
+use Rattle.s66_line.specs.Blocks.{Block}
 use Rattle.s66_source.specs.LeftAlone.{Reading}
 use Rattle.s66_source.specs.Printed.{Placed}
 use Rattle.s66_source.specs.Replaced.{printed_in}

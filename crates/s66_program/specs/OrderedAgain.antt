@@ -1,7 +1,7 @@
 -- To be believed: how long the blocks take, as written, of what `order` wrote.
 use Rattle.std.specs.Prelude.{ℕ, ◌≡◌, List, ◌++◌, Ok, Option, None, drop, length, map, replicate, take}
 use Rattle.s66_isa.specs.declared.profile.Profile.{Profile}
-use Rattle.s66_line.specs.Block.{instrs_of, Block}
+use Rattle.s66_line.specs.Blocks.{instrs_of, Block}
 use Rattle.s66_source.specs.LeftAlone.{Reading}
 use Rattle.s66_source.specs.Replaced.{printed_in}
 use Rattle.s66_source.specs.Source.{source_of}

@@ -1,7 +1,7 @@
 -- To be believed: what `page` writes for a source, and how it ends: a page that shows each block in its source order and by an answer of a search of its orders, and why no order is faster than a best one.
 use Rattle.std.specs.Prelude.{ℕ, ◌+◌, ◌≡◌, List, [], ◌∷◌, Option}
 use Rattle.s66_isa.specs.declared.profile.Profile.{Profile}
-use Rattle.s66_line.specs.Block.{instrs_of, Block}
+use Rattle.s66_line.specs.Blocks.{instrs_of, Block}
 use Rattle.s66_source.specs.LeftAlone.{Reading}
 use Rattle.s66_model.specs.declared.rule.Rule.{Rule}
 use Rattle.s66_command.specs.declared.strategy.Strategy.{Strategy}

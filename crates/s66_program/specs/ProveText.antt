@@ -1,10 +1,10 @@
 -- To be believed: what `prove` writes for a source, and how it ends: for each block the document of an answer, of which there may be several.
 use Rattle.std.specs.Prelude.{ℕ, ◌≡◌, List, [], ◌∷◌, Option}
 use Rattle.s66_isa.specs.declared.profile.Profile.{Profile}
-use Rattle.s66_line.specs.Block.{Block}
+use Rattle.s66_line.specs.Blocks.{Block}
 use Rattle.s66_source.specs.LeftAlone.{Reading}
 use Rattle.s66_model.specs.declared.rule.Rule.{Rule}
-use Rattle.s66_cert.specs.Document.{Document, document_text, documents_text}
+use Rattle.s66_cert.specs.Documents.{Document, document_text, documents_text}
 use Rattle.s66_command.specs.declared.strategy.Strategy.{Strategy}
 use Rattle.s66_answer.specs.declared.outcome.Status.{Status}
 use Rattle.s66_answer.specs.Answers.{Answer, document_under}

@@ -2,7 +2,7 @@
 use Rattle.std.specs.Prelude.{ℕ, suc, ◌≡◌, ◌<◌, ◌⊎◌, ◌^◌, ◌==◌, ◌||◌, Bool, true, not, if◌then◌else◌, List, [], ◌∷◌, ◌++◌, Option, Some, None, Ok, codes, decimal, length}
 use Rattle.s66_isa.specs.Lists.{every}
 use Rattle.s66_isa.specs.declared.profile.Profile.{Profile}
-use Rattle.s66_line.specs.Block.{Block, instrs_of}
+use Rattle.s66_line.specs.Blocks.{Block, instrs_of}
 use Rattle.s66_line.specs.Fields.{is_newline}
 use Rattle.s66_model.specs.Answer.{source_time}
 use Rattle.s66_model.specs.BestAndBound.{IsBound}

@@ -6,7 +6,7 @@ use Rattle.std.specs.Prelude.{ℕ, ◌+◌, ◌-◌, ◌≡◌, ◌≤◌, ◌<�
 use Rattle.s66_isa.specs.Lists.{tally, weigh}
 use Rattle.s66_isa.specs.Table.{numbers}
 use Rattle.s66_isa.specs.declared.profile.Profile.{Profile}
-use Rattle.s66_line.specs.Block.{instrs_of, line_of, Block}
+use Rattle.s66_line.specs.Blocks.{instrs_of, line_of, Block}
 use Rattle.s66_source.specs.Printed.{Placed}
 use Rattle.s66_source.specs.LeftAlone.{Reading}
 use Rattle.s66_command.specs.declared.command.SumStyle.{SumStyle}

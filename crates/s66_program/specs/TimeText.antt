@@ -6,7 +6,7 @@ use Rattle.s66_isa.specs.declared.profile.Profile.{Profile}
 use Rattle.s66_isa.specs.Lists.{weigh}
 use Rattle.s66_isa.specs.Table.{parcels_of, numbers}
 use Rattle.s66_model.specs.Packing.{fillers, len_at}
-use Rattle.s66_line.specs.Block.{instrs_of, Block}
+use Rattle.s66_line.specs.Blocks.{instrs_of, Block}
 use Rattle.s66_model.specs.Timing.{latest_result}
 use Rattle.s66_time.specs.TimedOrder.{TimedOrder, point_at}
 use Rattle.s66_source.specs.LeftAlone.{Reading}

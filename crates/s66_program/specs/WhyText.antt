@@ -1,7 +1,7 @@
 -- To be believed: what `why` writes of a source, and how it ends: for each block a line as that of `chart`, and what its instructions wait for, as the block was written or with `--order` in the order of an answer of a search, and below a best order why none is faster; with `--text` the text of each instruction stands beside its number.
 use Rattle.std.specs.Prelude.{ℕ, Bool, ◌≡◌, List, ◌++◌, Option, None, Some}
 use Rattle.s66_isa.specs.declared.profile.Profile.{Profile}
-use Rattle.s66_line.specs.Block.{instrs_of, Block}
+use Rattle.s66_line.specs.Blocks.{instrs_of, Block}
 use Rattle.s66_source.specs.LeftAlone.{Reading}
 use Rattle.s66_model.specs.declared.rule.Rule.{Rule}
 use Rattle.s66_command.specs.declared.strategy.Strategy.{Strategy}

@@ -4,7 +4,7 @@ ghost use Rattle.std.specs.Prelude.{ℕ, List, ◌≡◌, ◌≤◌, ◌++◌, f
 ghost use Rattle.s66_isa.specs.declared.limits.TheConstants.{BLOCK_LIMIT};
 ghost use Rattle.s66_isa.specs.Lists.{after_blanks, weigh};
 ghost use Rattle.s66_isa.specs.Table.{instr_at, numbers};
-ghost use Rattle.s66_line.specs.Block.{instrs_of};
+ghost use Rattle.s66_line.specs.Blocks.{instrs_of};
 ghost use Rattle.s66_model.specs.Dependence.{all_needs, needs};
 ghost use Rattle.s66_isa.specs.Members.{numbers_in};
 ghost use Rattle.s66_why.specs.Hazards.{hazards, hazards_text};

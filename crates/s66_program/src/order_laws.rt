@@ -5,7 +5,7 @@ ghost use Rattle.s66_command.specs.declared.command.OrderStyle.{OrderStyle};
 ghost use Rattle.s66_command.specs.declared.strategy.Strategy.{Strategy};
 ghost use Rattle.s66_compare.specs.Compared.{IsCompared};
 ghost use Rattle.s66_isa.specs.declared.profile.Profile.{Profile};
-ghost use Rattle.s66_line.specs.Block.{Block};
+ghost use Rattle.s66_line.specs.Blocks.{Block};
 ghost use Rattle.s66_answer.specs.declared.outcome.Status.{Status};
 ghost use Rattle.s66_answer.specs.declared.outcome.Status.TheVariants.{Done};
 ghost use Rattle.s66_program.specs.CompareText.{IsCompareOutput};

@@ -3,7 +3,7 @@
 ghost use Rattle.std.specs.Prelude.{ℕ, ◌≡◌, ◌≤◌, ◌+◌, ◌*◌, length};
 ghost use Rattle.s66_isa.specs.Lists.{Among};
 ghost use Rattle.s66_isa.specs.declared.limits.TheConstants.{BLOCK_LIMIT};
-ghost use Rattle.s66_line.specs.Block.{instrs_of};
+ghost use Rattle.s66_line.specs.Blocks.{instrs_of};
 ghost use Rattle.s66_program.specs.Words.{parcel_after, words_for, words_of};
 
 use s66_line::Block;

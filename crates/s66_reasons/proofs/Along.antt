@@ -9,11 +9,11 @@ use Rattle.s66_moments.specs.declared.moment.Moment.{Moment}
 use Rattle.s66_moments.specs.declared.moment.Moment.TheVariants.{Origin, At, End}
 use Rattle.s66_moments.specs.Paths.{Hop as Step, waits}
 use Rattle.s66_moments.specs.Networks.{IsRising, IsNetworkPath, most_arcs, targets}
-use Rattle.s66_moments.specs.Known.{plus, reaches}
+use Rattle.s66_moments.specs.KnownFacts.{plus, reaches}
 use Rattle.s66_moments.proofs.TableArcs.{Some-same, None-none}
 use Rattle.s66_moments.proofs.Tails.{arc-some}
 use Rattle.s66_moments.proofs.Spans.{height, plus-some, span-high, span-path}
-use Rattle.s66_cert.specs.Document.{Document}
+use Rattle.s66_cert.specs.Documents.{Document}
 use Rattle.s66_checker.specs.Verdict.{problem_of}
 use Rattle.s66_reasons.specs.declared.hop.Hop.{Hop}
 use Rattle.s66_reasons.specs.LongestPaths.{arcs, first_hop, hop_and, hop_to, hops_from, next_hop, to_end}

@@ -10,15 +10,15 @@ use Rattle.s66_isa.specs.Lists.{Among, every, has}
 use Rattle.s66_model.specs.Timing.{Problem}
 use Rattle.s66_model.specs.LegalOrder.{IsBeginning, is_remaining}
 use Rattle.s66_model.specs.Leaves.{Leaf, Whole, Chain, Load, Parcels, IsWalk, IsChain, MayStand, value}
-use Rattle.s66_model.specs.Tree.{Vertex, AtTerminal, AtSplit}
+use Rattle.s66_model.specs.Trees.{Vertex, AtTerminal, AtSplit}
 use Rattle.s66_model.specs.DominatedLeaves.{Ending, Bounding, Dominated, Factual}
 use Rattle.s66_model.specs.FactLeaves.{Next, Turned, AtLine, LoadFrom}
 use Rattle.s66_model.proofs.Remaining.{remaining-parts}
 use Rattle.s66_line.specs.InstructionText.{instr_in_text}
 use Rattle.s66_moments.specs.Facts.{IsNumber}
 use Rattle.s66_moments.specs.FactLines.{use_time}
-use Rattle.s66_moments.specs.Known.{Known, are_rising, is_left, is_loaded, is_number, is_turned, kind_of_load, next_value, use_of}
-use Rattle.s66_cert.specs.Document.{Document, IsDocument, tree_placed}
+use Rattle.s66_moments.specs.KnownFacts.{Known, are_rising, is_left, is_loaded, is_number, is_turned, kind_of_load, next_value, use_of}
+use Rattle.s66_cert.specs.Documents.{Document, IsDocument, tree_placed}
 use Rattle.s66_cert.specs.declared.limits.TheConstants.{SPLIT_LIMIT}
 use Rattle.s66_checker.specs.Dominating.{is_beginning}
 use Rattle.s66_checker.proofs.GoingTo.{goes_on-Decides}

@@ -12,7 +12,7 @@ use Rattle.s66_moments.specs.declared.moment.Moment.TheVariants.{Origin, At, End
 use Rattle.s66_moments.specs.declared.fact_line.LoadLine.{LoadLine}
 use Rattle.s66_moments.specs.FactLines.{use_time}
 use Rattle.s66_moments.specs.Networks.{Network}
-use Rattle.s66_moments.specs.Known.{Known, arcs_of, are_used, is_late_by_parcels, is_load_taken, is_number, is_used, kind_of_load, plus, reaches, span, use_of}
+use Rattle.s66_moments.specs.KnownFacts.{Known, arcs_of, are_used, is_late_by_parcels, is_load_taken, is_number, is_used, kind_of_load, plus, reaches, span, use_of}
 use Rattle.s66_reasons.specs.FactWords.{by_parcels, by_unit, late_words, soonest_known}
 
 -- the instructions of a load are those of the block

@@ -11,10 +11,10 @@ use Rattle.s66_moments.specs.declared.fact_line.FactStep.TheVariants.{Fact, Supp
 use Rattle.s66_moments.specs.declared.fact_line.KnownArc.{KnownArc}
 use Rattle.s66_moments.specs.declared.fact_line.LoadLine.{LoadLine}
 use Rattle.s66_moments.specs.Networks.{Network, network, same_moment, with_arc}
-use Rattle.s66_moments.specs.Known.{Known, with_loads as known_with}
+use Rattle.s66_moments.specs.KnownFacts.{Known, with_loads as known_with}
 use Rattle.s66_moments.specs.Suppositions.{Supposition, Standing, are_steps_taken, is_step_taken, standing_after, standing_first, with_step}
 use Rattle.s66_moments.proofs.MoreArcs.{same_moment-true}
-use Rattle.s66_cert.specs.Document.{Document}
+use Rattle.s66_cert.specs.Documents.{Document}
 use Rattle.s66_checker.specs.KeptKnown.{AreTaken}
 use Rattle.s66_checker.specs.Verdict.{facts_of, known_of, problem_of, standing_of}
 use Rattle.s66_reasons.specs.FactWords.{to_show}

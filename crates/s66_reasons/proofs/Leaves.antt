@@ -3,9 +3,9 @@ use Rattle.std.proofs.Common.{ℕ, ◌≡◌, ◌≤◌, Bool, false, List, [], 
 use Rattle.std.proofs.lemmas.Bool.{or_parts}
 use Rattle.s66_isa.specs.declared.instr.Instr.{Instr}
 use Rattle.s66_isa.specs.Lists.{Among, some_of}
-use Rattle.s66_model.specs.Tree.{Tree, Alone, Parted, Siblings, NoMore, Unsplit, Split, Vertex, AtTerminal, AtSplit, SiblingsHold, TreeHolds, flat, flat_siblings}
+use Rattle.s66_model.specs.Trees.{Tree, Alone, Parted, Siblings, NoMore, Unsplit, Split, Vertex, AtTerminal, AtSplit, SiblingsHold, TreeHolds, flat, flat_siblings}
 use Rattle.s66_model.specs.DominatedLeaves.{Ending}
-use Rattle.s66_cert.specs.Document.{IsLeafLine, SiblingsFit, TreeFits, siblings_placed, tree_placed}
+use Rattle.s66_cert.specs.Documents.{IsLeafLine, SiblingsFit, TreeFits, siblings_placed, tree_placed}
 use Rattle.s66_isa.proofs.Lists.{split-among}
 
 abbrev Line : Type 0

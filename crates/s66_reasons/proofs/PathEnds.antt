@@ -21,7 +21,7 @@ use Rattle.s66_moments.specs.Facts.{AreSo, Fact, IsNumber}
 use Rattle.s66_moments.specs.FactLines.{facts_after, use_time}
 use Rattle.s66_moments.specs.Paths.{Hop as Step}
 use Rattle.s66_moments.specs.Networks.{HasOwnArcs, IsRising, most_arcs, moments_of, network, soonest_path, tail}
-use Rattle.s66_moments.specs.Known.{is_left, is_left_from, kind_of_load, next_value, reaches, use_of}
+use Rattle.s66_moments.specs.KnownFacts.{is_left, is_left_from, kind_of_load, next_value, reaches, use_of}
 use Rattle.s66_moments.specs.Suppositions.{shown_by_all, standing_first}
 use Rattle.s66_moments.proofs.Tails.{all-among, arc-some, own-among, path-tail, tail-reached}
 use Rattle.s66_moments.proofs.KnownLines.{IsSound, arcs-own, arcs-rise, arcs-steps, span-tail}
@@ -29,7 +29,7 @@ use Rattle.s66_moments.proofs.FoundedLines.{lines-so}
 use Rattle.s66_moments.proofs.Steps.{step-so}
 use Rattle.s66_moments.proofs.SupposedLines.{after-stands, closed-sound}
 use Rattle.s66_moments.proofs.Spans.{height-some}
-use Rattle.s66_cert.specs.Document.{Document}
+use Rattle.s66_cert.specs.Documents.{Document}
 use Rattle.s66_checker.specs.KeptKnown.{AreTaken}
 use Rattle.s66_checker.specs.Verdict.{facts_of, known_of, problem_of, standing_of}
 use Rattle.s66_reasons.specs.declared.hop.Hop.{Hop}

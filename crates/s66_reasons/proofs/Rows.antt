@@ -5,7 +5,7 @@ use Rattle.s66_model.specs.Timing.{points_of, row_at}
 use Rattle.s66_model.specs.LegalOrder.{remaining}
 use Rattle.s66_model.specs.Leaves.{Leaf, Whole, Chain, Load, Parcels, MayStand, head, if_last, link, value, walk}
 use Rattle.s66_model.specs.DominatedLeaves.{Bounding}
-use Rattle.s66_cert.specs.Document.{Document}
+use Rattle.s66_cert.specs.Documents.{Document}
 use Rattle.s66_checker.specs.Verdict.{problem_of}
 use Rattle.s66_reasons.specs.Words.{Reason}
 use Rattle.s66_reasons.specs.ChainWords.{start_rows, walk_rows}

@@ -13,11 +13,11 @@ use Rattle.s66_moments.specs.Facts.{IsNumber}
 use Rattle.s66_moments.specs.Moments.{arc, has_stage, is_moment, later_arc, own_arc}
 use Rattle.s66_moments.specs.Networks.{Network, is_in_order, network}
 use Rattle.s66_moments.specs.Paths.{Hop as Step}
-use Rattle.s66_moments.specs.Known.{span}
+use Rattle.s66_moments.specs.KnownFacts.{span}
 use Rattle.s66_moments.proofs.NextLeaves.{path-join, waits-join}
 use Rattle.s66_moments.proofs.Spans.{height, some-height, span-high, span-path}
 use Rattle.s66_facts.specs.Marked.{before_in}
-use Rattle.s66_facts.specs.Ground.{Ground, IsAcyclic, ground_arcs}
+use Rattle.s66_facts.specs.BlockGround.{Ground, IsAcyclic, ground_arcs}
 use Rattle.s66_facts.proofs.Edges.{HasArc, is-stage, loads-longer, rises}
 
 module _ (g : Ground) (ordered : IsAcyclic g) (n : ℕ) (number : IsNumber g.problem n) where

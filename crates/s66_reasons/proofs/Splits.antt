@@ -2,7 +2,7 @@
 use Rattle.std.proofs.Common.{◌≡◌, ◌≤◌, ◌∙◌, refl, ap, sym, arith}
 use Rattle.s66_isa.specs.Lists.{tally}
 use Rattle.s66_isa.proofs.Lists.{tally-append}
-use Rattle.s66_model.specs.Tree.{Tree, Alone, Parted, Siblings, NoMore, Unsplit, Split, flat, flat_siblings, splits, sibling_splits}
+use Rattle.s66_model.specs.Trees.{Tree, Alone, Parted, Siblings, NoMore, Unsplit, Split, flat, flat_siblings, splits, sibling_splits}
 use Rattle.s66_model.specs.DominatedLeaves.{Ending}
 use Rattle.s66_cert.specs.declared.limits.TheConstants.{SPLIT_LIMIT}
 use Rattle.s66_cert.specs.DocumentParts.{Parts, AreWhole, document_of}

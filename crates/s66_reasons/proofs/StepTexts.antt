@@ -9,7 +9,7 @@ use Rattle.s66_moments.specs.Facts.{IsNumber}
 use Rattle.s66_moments.specs.Networks.{Network}
 use Rattle.s66_moments.specs.Suppositions.{Standing, are_steps_taken, is_late_through, is_step_taken, may_be_supposed, with_step}
 use Rattle.s66_moments.proofs.SupposedLines.{supposed-parts}
-use Rattle.s66_cert.specs.Document.{Document}
+use Rattle.s66_cert.specs.Documents.{Document}
 use Rattle.s66_cert.proofs.Printed.{drop-here}
 use Rattle.s66_reasons.specs.FactWords.{facts_from, late_number, numbered_step}
 use Rattle.s66_reasons.specs.LongestPaths.{to_show_after}

@@ -17,7 +17,7 @@ use Rattle.s66_moments.specs.Moments.{time_of}
 use Rattle.s66_moments.specs.Facts.{AreSo, Arc, Before, Fact as FactOf, NoOrder}
 use Rattle.s66_moments.specs.FactLines.{fact_of}
 use Rattle.s66_moments.specs.Networks.{Network, same_moment}
-use Rattle.s66_moments.specs.Known.{Known, arcs_of, line_of, plus, span}
+use Rattle.s66_moments.specs.KnownFacts.{Known, arcs_of, line_of, plus, span}
 use Rattle.s66_moments.specs.Suppositions.{Standing, Supposition, are_steps_taken, is_late, is_late_at, is_late_load, is_late_through, is_step_taken, standing_after, standing_first, with_step}
 use Rattle.s66_moments.proofs.FactLaws.{among-so, forced}
 use Rattle.s66_moments.proofs.FoundedLines.{line-follows}
@@ -26,7 +26,7 @@ use Rattle.s66_moments.proofs.MoreArcs.{same_moment-true}
 use Rattle.s66_moments.proofs.Spans.{plus-some}
 use Rattle.s66_moments.proofs.Steps.{leads-so, precedes-so}
 use Rattle.s66_moments.proofs.SupposedLines.{MaySuppose, supposed-parts}
-use Rattle.s66_cert.specs.Document.{Document}
+use Rattle.s66_cert.specs.Documents.{Document}
 use Rattle.s66_checker.specs.Verdict.{problem_of}
 use Rattle.s66_reasons.specs.Shown.{HasKnown, HasSupposed, HoldsIn, IsRefutedIn}
 

@@ -8,9 +8,9 @@ use Rattle.std.proofs.lemmas.Result.{IfOk-equal}
 use Rattle.s66_isa.specs.Lists.{rising}
 use Rattle.s66_model.specs.Timing.{row_at}
 use Rattle.s66_model.specs.Leaves.{link}
-use Rattle.s66_model.specs.Tree.{Vertex, AtTerminal, AtSplit}
+use Rattle.s66_model.specs.Trees.{Vertex, AtTerminal, AtSplit}
 use Rattle.s66_model.specs.DominatedLeaves.{Ending}
-use Rattle.s66_cert.specs.Document.{Document}
+use Rattle.s66_cert.specs.Documents.{Document}
 use Rattle.s66_cert.proofs.Printed.{drop-here}
 use Rattle.s66_checker.specs.Verdict.{problem_of}
 use Rattle.s66_why.specs.Why.{on_right}

@@ -5,7 +5,7 @@ use Rattle.s66_isa.specs.Table.{Row, Write, has_reg}
 use Rattle.s66_model.specs.Timing.{points_of, row_at}
 use Rattle.s66_model.specs.Leaves.{head, link, tail, uses}
 use Rattle.s66_why.specs.Why.{register_name}
-use Rattle.s66_cert.specs.Document.{Document}
+use Rattle.s66_cert.specs.Documents.{Document}
 use Rattle.s66_checker.specs.Verdict.{problem_of}
 use Rattle.s66_reasons.specs.Words.{Reason, instruction}
 

@@ -14,8 +14,8 @@ use Rattle.s66_moments.specs.declared.fact_line.FactStep.TheVariants as step
 use Rattle.s66_moments.specs.FactLines.{Use, use_time}
 use Rattle.s66_moments.specs.Networks.{Network}
 use Rattle.s66_moments.specs.Suppositions.{Supposition, Standing, is_late_at, is_late_through, with_step}
-use Rattle.s66_moments.specs.Known.{Known, arcs_of, is_late_by_parcels, kind_of_load, span, use_of}
-use Rattle.s66_cert.specs.Document.{Document}
+use Rattle.s66_moments.specs.KnownFacts.{Known, arcs_of, is_late_by_parcels, kind_of_load, span, use_of}
+use Rattle.s66_cert.specs.Documents.{Document}
 use Rattle.s66_checker.specs.Verdict.{problem_of}
 use Rattle.s66_reasons.specs.declared.work.Work.{Work}
 use Rattle.s66_reasons.specs.Words.{each_words, instruction, listed, longest_use, unit_name}

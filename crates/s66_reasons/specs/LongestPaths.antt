@@ -12,9 +12,9 @@ use Rattle.s66_moments.specs.declared.fact_line.LoadLine.{LoadLine}
 use Rattle.s66_moments.specs.declared.fact_line.FactStep.{FactStep}
 use Rattle.s66_moments.specs.declared.fact_line.FactStep.TheVariants.{Fact, Suppose, Refuted}
 use Rattle.s66_moments.specs.Networks.{Network, most_arcs, network, precedes, same_moment, targets}
-use Rattle.s66_moments.specs.Known.{arcs_of, plus, reaches, span}
+use Rattle.s66_moments.specs.KnownFacts.{arcs_of, plus, reaches, span}
 use Rattle.s66_why.specs.Why.{register_name}
-use Rattle.s66_cert.specs.Document.{Document}
+use Rattle.s66_cert.specs.Documents.{Document}
 use Rattle.s66_checker.specs.Verdict.{facts_of, known_of, problem_of}
 use Rattle.s66_reasons.specs.declared.hop.Hop.{Hop}
 use Rattle.s66_reasons.specs.ChainWords.{end_words, link_words}

@@ -7,10 +7,10 @@ use Rattle.s66_isa.specs.Table.{numbers, same_kind}
 use Rattle.s66_model.specs.Timing.{Problem, copies, next, points_of, row_at, total_of}
 use Rattle.s66_model.specs.LegalOrder.{is_remaining, remaining, sum_remaining}
 use Rattle.s66_model.specs.Leaves.{Whole, Chain, Load, Parcels, if_last, load, rest_busy, tail, work_of}
-use Rattle.s66_model.specs.Tree.{Tree, Vertex, AtTerminal, AtSplit, flat, splits}
+use Rattle.s66_model.specs.Trees.{Tree, Vertex, AtTerminal, AtSplit, flat, splits}
 use Rattle.s66_model.specs.DominatedLeaves.{Ending, Bounding, Dominated, Factual}
 use Rattle.s66_model.specs.FactLeaves.{Next, Turned, AtLine, LoadFrom}
-use Rattle.s66_cert.specs.Document.{Document, has_factual, tree_placed}
+use Rattle.s66_cert.specs.Documents.{Document, has_factual, tree_placed}
 use Rattle.s66_moments.specs.declared.moment.Stage.TheVariants.{Issue}
 use Rattle.s66_moments.specs.declared.moment.Moment.TheVariants.{Origin, At, End}
 use Rattle.s66_moments.specs.Suppositions.{standing_first}

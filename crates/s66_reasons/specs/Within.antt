@@ -5,19 +5,19 @@ use Rattle.s66_isa.specs.Lists.{every}
 use Rattle.s66_model.specs.Timing.{Problem}
 use Rattle.s66_model.specs.LegalOrder.{IsBeginning, is_remaining}
 use Rattle.s66_model.specs.Leaves.{Whole, Chain, Load, Parcels}
-use Rattle.s66_model.specs.Tree.{TreeHolds, Vertex, AtTerminal, AtSplit}
+use Rattle.s66_model.specs.Trees.{TreeHolds, Vertex, AtTerminal, AtSplit}
 use Rattle.s66_model.specs.DominatedLeaves.{Ending, Bounding, Dominated, Factual}
 use Rattle.s66_model.specs.FactLeaves.{Next, Turned, AtLine, LoadFrom}
 use Rattle.s66_moments.specs.declared.fact_line.LoadLine.{LoadLine}
 use Rattle.s66_moments.specs.declared.moment.Moment.{Moment}
 use Rattle.s66_moments.specs.declared.moment.Moment.TheVariants.{Origin, At, End}
 use Rattle.s66_moments.specs.Facts.{IsNumber}
-use Rattle.s66_moments.specs.Known.{known_first}
+use Rattle.s66_moments.specs.KnownFacts.{known_first}
 use Rattle.s66_moments.specs.Networks.{same_moment}
 use Rattle.s66_moments.specs.Suppositions.{standing_first}
-use Rattle.s66_facts.specs.Ground.{Ground, known_of as known_in}
+use Rattle.s66_facts.specs.BlockGround.{Ground, known_of as known_in}
 use Rattle.s66_facts.specs.Supposing.{Grounds, standing_in}
-use Rattle.s66_cert.specs.Document.{Document, IsDocument}
+use Rattle.s66_cert.specs.Documents.{Document, IsDocument}
 use Rattle.s66_checker.specs.Checked.{Checked}
 use Rattle.s66_checker.specs.KeptKnown.{AreTaken, KnowsAll}
 use Rattle.s66_checker.specs.Verdict.{line_fault, problem_of}

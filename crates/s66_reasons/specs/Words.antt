@@ -7,7 +7,7 @@ use Rattle.s66_isa.specs.declared.instr.Kind.TheVariants.{Boolean, Shift, Add, L
 use Rattle.s66_isa.specs.Lists.{greatest}
 use Rattle.s66_model.specs.Timing.{Problem, row_at}
 use Rattle.s66_why.specs.Why.{on_right}
-use Rattle.s66_cert.specs.Document.{Document}
+use Rattle.s66_cert.specs.Documents.{Document}
 
 -- WORDS
 

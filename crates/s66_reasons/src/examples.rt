@@ -3,7 +3,7 @@
 ghost use Rattle.std.specs.Prelude.{[], ◌∷◌, ◌≡◌, ◌++◌, codes};
 ghost use Rattle.s66_isa.specs.declared.instr.Kind.TheVariants.{Divide, Multiply};
 ghost use Rattle.s66_model.specs.Leaves.{Load};
-ghost use Rattle.s66_model.specs.Tree.{Alone, Parted, NoMore, Unsplit};
+ghost use Rattle.s66_model.specs.Trees.{Alone, Parted, NoMore, Unsplit};
 ghost use Rattle.s66_model.specs.DominatedLeaves.{Bounding};
 ghost use Rattle.s66_cert.specs.Examples.{one_load, three_multiplies};
 ghost use Rattle.s66_moments.specs.Examples.{second_by_lines};

@@ -7,8 +7,8 @@ ghost use Rattle.s66_moments.specs.declared.fact_line.FactLine.TheVariants.{Load
 ghost use Rattle.s66_moments.specs.declared.moment.Stage.TheVariants.{Issue};
 ghost use Rattle.s66_moments.specs.declared.moment.Moment.TheVariants.{At};
 ghost use Rattle.s66_moments.specs.Facts.{IsNumber};
-ghost use Rattle.s66_moments.specs.Known.{arcs_of, is_taken, plus, reaches};
-ghost use Rattle.s66_facts.specs.Ground.{known_of as known_in};
+ghost use Rattle.s66_moments.specs.KnownFacts.{arcs_of, is_taken, plus, reaches};
+ghost use Rattle.s66_facts.specs.BlockGround.{known_of as known_in};
 ghost use Rattle.s66_cert.specs.DocumentParts.{document_of};
 ghost use Rattle.s66_checker.specs.Verdict.{problem_of};
 ghost use Rattle.s66_reasons.specs.Within.{AreLoaded};

@@ -1,7 +1,7 @@
 //! The arcs and the longest paths to the end by what is known after fact lines, and which line gives an arc.
 
 ghost use Rattle.std.specs.Prelude.{◌≡◌};
-ghost use Rattle.s66_moments.specs.Known.{plus, reaches};
+ghost use Rattle.s66_moments.specs.KnownFacts.{plus, reaches};
 
 use crate::arcs::{arc_by_lines, table_arc};
 use crate::hop::Hop;
@@ -50,7 +50,7 @@ impl<'a> KnownPaths<'a> {
     ghost use Rattle.s66_moments.specs.declared.moment.Moment.TheVariants.{At};
     ghost use Rattle.s66_moments.specs.declared.moment.Stage.TheVariants.{Done};
     ghost use Rattle.s66_moments.specs.Facts.{IsNumber};
-    ghost use Rattle.s66_moments.specs.Known.{reaches};
+    ghost use Rattle.s66_moments.specs.KnownFacts.{reaches};
     ghost use Rattle.s66_moments.specs.Networks.{moments_among, moments_of, network};
     ghost use Rattle.s66_cert.specs.DocumentParts.{document_of};
     ghost use Rattle.s66_checker.specs.Verdict.{known_of, problem_of};

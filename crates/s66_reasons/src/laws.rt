@@ -2,15 +2,15 @@
 
 ghost use Rattle.std.specs.Prelude.{ℕ, List, ◌≡◌, true};
 ghost use Rattle.s66_model.specs.Leaves.{Leaf};
-ghost use Rattle.s66_model.specs.Tree.{Alone};
+ghost use Rattle.s66_model.specs.Trees.{Alone};
 ghost use Rattle.s66_model.specs.DominatedLeaves.{Bounding, Factual};
 ghost use Rattle.s66_model.specs.FactLeaves.{Next, Turned, LoadFrom};
 ghost use Rattle.s66_moments.specs.Facts.{IsNumber};
-ghost use Rattle.s66_moments.specs.Known.{is_turned};
+ghost use Rattle.s66_moments.specs.KnownFacts.{is_turned};
 ghost use Rattle.s66_moments.specs.declared.fact_line.FactStep.{FactStep};
 ghost use Rattle.s66_moments.specs.declared.fact_line.FactStep.TheVariants.{Refuted};
 ghost use Rattle.s66_moments.specs.Suppositions.{are_steps_taken, is_step_taken, standing_after, standing_first};
-ghost use Rattle.s66_cert.specs.Document.{Document, IsDocument};
+ghost use Rattle.s66_cert.specs.Documents.{Document, IsDocument};
 ghost use Rattle.s66_checker.specs.declared.verdict.Verdict.TheVariants.{Yes};
 ghost use Rattle.s66_checker.specs.KeptKnown.{AreTaken};
 ghost use Rattle.s66_checker.specs.Verdict.{known_of, problem_of, verdict};

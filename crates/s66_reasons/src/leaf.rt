@@ -3,10 +3,10 @@
 
 ghost use Rattle.std.specs.Prelude.{◌≡◌, ◌++◌, false, IfNone, IfSome, OnOk};
 ghost use Rattle.s66_moments.specs.Facts.{IsNumber};
-ghost use Rattle.s66_model.specs.Tree.{AtTerminal};
+ghost use Rattle.s66_model.specs.Trees.{AtTerminal};
 ghost use Rattle.s66_model.specs.DominatedLeaves.{Factual};
 ghost use Rattle.s66_model.specs.Lines.{fact_leaf_of, vertex_of};
-ghost use Rattle.s66_cert.specs.Document.{is_factual};
+ghost use Rattle.s66_cert.specs.Documents.{is_factual};
 ghost use Rattle.s66_cert.specs.DocumentParts.{document_of};
 ghost use Rattle.s66_checker.specs.Verdict.{problem_of};
 ghost use Rattle.s66_reasons.specs.Reasons.{issue_row, leaf_text, left_row, next_rows, turned_text, whole_row};

@@ -3,7 +3,7 @@
 ghost use Rattle.std.specs.Prelude.{◌≡◌, ◌++◌, [], true, false, IfNone, IfSome, OnOk};
 ghost use Rattle.s66_isa.specs.Lists.{Among};
 ghost use Rattle.s66_model.specs.Lines.{vertex_of};
-ghost use Rattle.s66_cert.specs.Document.{has_factual, is_factual, tree_placed};
+ghost use Rattle.s66_cert.specs.Documents.{has_factual, is_factual, tree_placed};
 ghost use Rattle.s66_cert.specs.DocumentParts.{document_of};
 ghost use Rattle.s66_checker.specs.Verdict.{problem_of};
 ghost use Rattle.s66_checker.specs.Dominating.{is_beginning};

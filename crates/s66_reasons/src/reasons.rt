@@ -3,9 +3,9 @@
 
 ghost use Rattle.std.specs.Prelude.{◌≡◌, ◌≤◌, ◌++◌, [], OnOk, length};
 ghost use Rattle.s66_isa.specs.declared.limits.TheConstants.{BLOCK_LIMIT};
-ghost use Rattle.s66_model.specs.Tree.{splits};
+ghost use Rattle.s66_model.specs.Trees.{splits};
 ghost use Rattle.s66_moments.specs.Suppositions.{standing_first};
-ghost use Rattle.s66_cert.specs.Document.{tree_placed};
+ghost use Rattle.s66_cert.specs.Documents.{tree_placed};
 ghost use Rattle.s66_cert.specs.DocumentParts.{document_of};
 ghost use Rattle.s66_checker.specs.declared.verdict.Verdict.TheVariants.{Yes};
 ghost use Rattle.s66_checker.specs.Verdict.{facts_of, problem_of, verdict};

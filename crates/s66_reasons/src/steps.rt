@@ -3,9 +3,9 @@
 ghost use Rattle.std.specs.Prelude.{◌≡◌, ◌++◌, [], ◌∷◌, true, IfOk, IfSome, OnOk};
 ghost use Rattle.s66_isa.specs.Table.{numbers};
 ghost use Rattle.s66_moments.specs.Facts.{IsNumber};
-ghost use Rattle.s66_moments.specs.Known.{arcs_of};
+ghost use Rattle.s66_moments.specs.KnownFacts.{arcs_of};
 ghost use Rattle.s66_moments.specs.Suppositions.{is_step_taken, standing_first};
-ghost use Rattle.s66_facts.specs.Ground.{known_of as known_in};
+ghost use Rattle.s66_facts.specs.BlockGround.{known_of as known_in};
 ghost use Rattle.s66_facts.specs.Supposing.{standing_in};
 ghost use Rattle.s66_cert.specs.DocumentParts.{document_of};
 ghost use Rattle.s66_checker.specs.KeptKnown.{KnowsAll};

@@ -2,10 +2,10 @@
 
 ghost use Rattle.std.specs.Prelude.{◌≡◌, ◌≤◌};
 ghost use Rattle.s66_isa.specs.Lists.{every, some_of, tally};
-ghost use Rattle.s66_model.specs.Tree.{splits};
+ghost use Rattle.s66_model.specs.Trees.{splits};
 ghost use Rattle.s66_model.specs.Lines.{vertex_of};
 ghost use Rattle.s66_cert.specs.declared.limits.TheConstants.{SPLIT_LIMIT};
-ghost use Rattle.s66_cert.specs.Document.{has_factual, is_factual};
+ghost use Rattle.s66_cert.specs.Documents.{has_factual, is_factual};
 ghost use Rattle.s66_cert.specs.DocumentParts.{document_of};
 ghost use Rattle.s66_reasons.specs.Reasons.{is_line_said, is_said};
 ghost use Rattle.s66_reasons.specs.Within.{is_split};

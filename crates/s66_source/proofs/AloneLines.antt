@@ -1,7 +1,7 @@
 -- A line that is left alone is of no block.
 use Rattle.std.proofs.Common.{◌≡◌, ◌&&◌, ◌||◌, ℕ, zero, suc, Bool, true, false, true≢false, if◌then◌else◌, List, [], ◌∷◌, Some, refl, sym, ap, ap₂, ◌∙◌}
 use Rattle.std.specs.Prelude.{slice_get}
-use Rattle.s66_line.specs.Class.{is_code, is_instruction, ends_run}
+use Rattle.s66_line.specs.Classes.{is_code, is_instruction, ends_run}
 use Rattle.s66_line.specs.declared.class.Class.{Class}
 use Rattle.s66_line.specs.declared.class.Class.TheVariants.{Comment, Other, Refused, Pad, Instruction}
 use Rattle.s66_source.specs.LeftAlone.{Flagged, Reading, class_at, flagged_lines}

@@ -2,11 +2,11 @@
 use Rattle.std.proofs.Common.{◌≡◌, ◌==◌, ℕ, suc, Bool, true, false, cond, if◌then◌else◌, List, [], ◌∷◌, ◌++◌, map, refl, sym, ap, ap₂, ◌∙◌, lit<, Option, None, Some}
 use Rattle.s66_line.specs.Fields.{last_line, lines_from, lines_of, upper, body, from_operation, label_bytes}
 use Rattle.s66_source.specs.LeftAlone.{Reading, Flagged, at_first, class_at, flagged_from, flagged_lines, redefined_by}
-use Rattle.s66_source.specs.Redefined.{nothing_redefined, redefined_in}
+use Rattle.s66_source.specs.Redefinitions.{nothing_redefined, redefined_in}
 use Rattle.s66_source.proofs.RedefinedCase.{redefined-upper_lines}
 use Rattle.s66_source.specs.Source.{Line, run_at, run_after, place_at, place_after, label_at, label_after, classes_from, classed_lines, refusal_at, refusal, instructions, begins_block, put_before, parts_of, entry_of, label_in, block_of, blocks_of, unless_refused, source_of}
-use Rattle.s66_line.specs.Block.{Entry, Block}
-use Rattle.s66_line.specs.Class.{is_instruction, is_code, begins_run, ends_run, instr_in}
+use Rattle.s66_line.specs.Blocks.{Entry, Block}
+use Rattle.s66_line.specs.Classes.{is_instruction, is_code, begins_run, ends_run, instr_in}
 use Rattle.s66_source.specs.UpperRead.{upper_entry, upper_block, upper_read}
 use Rattle.s66_source.specs.declared.error.SourceError.{SourceError}
 use Rattle.s66_line.specs.declared.class.Class.{Class}

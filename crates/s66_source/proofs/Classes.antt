@@ -2,7 +2,7 @@
 use Rattle.std.proofs.Common.{◌≡◌, ◌==◌, ◌&&◌, Bool, true, false, if◌then◌else◌, Option, None, Some, is_some, ℕ, List, [], ◌∷◌, refl, ap, ◌∙◌}
 use Rattle.s66_isa.specs.declared.instr.Instr.{Instr}
 use Rattle.s66_line.specs.Characters.{runs_on}
-use Rattle.s66_line.specs.Class.{begins_run, class_of, class_of_operand, is_code, is_located, is_pad}
+use Rattle.s66_line.specs.Classes.{begins_run, class_of, class_of_operand, is_code, is_located, is_pad}
 use Rattle.s66_line.specs.Fields.{body, continues, from_operation, is_comment, operation, upper}
 use Rattle.s66_line.specs.InstructionText.{operand_in, operation_in}
 use Rattle.s66_line.specs.Operand.{instr_of, is_octal, operation_of}

@@ -10,7 +10,7 @@ use Rattle.std.proofs.lemmas.Slice.Eq.{bytes_eq-Decides}
 use Rattle.s66_line.specs.Fields.{body, continues, is_comment, lines_from, location, operand, operation, upper, upper_byte}
 use Rattle.s66_line.proofs.UpperCase.{kept, length-upper, upper-if}
 use Rattle.s66_source.specs.Counts.{before_byte, is_one_of}
-use Rattle.s66_source.specs.Redefined.{Redefined, defined_by, defined_name, forming, macros, own_operation, renaming, is_short}
+use Rattle.s66_source.specs.Redefinitions.{Redefined, defined_by, defined_name, forming, macros, own_operation, renaming, is_short}
 use Rattle.s66_source.specs.Redefining.{with_bodies, with_lines, begins_so, one_begins_so}
 use Rattle.s66_source.proofs.Standings.{upper-ascii}
 

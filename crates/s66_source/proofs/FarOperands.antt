@@ -12,13 +12,13 @@ use Rattle.s66_source.specs.declared.columns.Columns.{Columns}
 use Rattle.s66_source.specs.declared.columns.Columns.TheVariants.{Own, Usual}
 use Rattle.s66_source.specs.LeftAlone.{distance, is_far, is_doubtful}
 use Rattle.s66_source.specs.Printed.{label_field}
-use Rattle.s66_source.specs.Redefined.{Redefined, is_redefined}
+use Rattle.s66_source.specs.Redefinitions.{Redefined, is_redefined}
 use Rattle.s66_source.proofs.RedefinedCase.{redefined-trim}
 use Rattle.s66_source.proofs.ReadBack.{trim-all}
 use Rattle.s66_source.proofs.ReadLine.{operand-trimmed, IsLabel, IsRead, read-indented, read-line, body-again, trim-behind}
 use Rattle.s66_source.proofs.CharactersRead.{SpellsAll}
 use Rattle.s66_line.specs.declared.class.Class.TheVariants.{Instruction}
-use Rattle.s66_line.specs.Class.{class_of, is_code}
+use Rattle.s66_line.specs.Classes.{class_of, is_code}
 use Rattle.s66_source.proofs.Classes.{same-code}
 
 -- the operand is filled, and so far behind the operation

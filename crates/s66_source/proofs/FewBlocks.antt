@@ -2,8 +2,8 @@
 use Rattle.std.proofs.Common.{ℕ, suc, ◌+◌, ◌≡◌, ◌≤◌, ◌∙◌, Bool, true, false, if◌then◌else◌, List, [], ◌∷◌, length, refl, ap, sym, arith}
 use Rattle.std.specs.Prelude.{Ok}
 use Rattle.std.proofs.lemmas.List.{length-map}
-use Rattle.s66_line.specs.Block.{Block}
-use Rattle.s66_line.specs.Class.{is_code, is_instruction}
+use Rattle.s66_line.specs.Blocks.{Block}
+use Rattle.s66_line.specs.Classes.{is_code, is_instruction}
 use Rattle.s66_line.specs.Fields.{lines_of}
 use Rattle.s66_source.specs.LeftAlone.{Flagged, Reading, at_first, class_at, flagged_lines, redefined_by}
 use Rattle.s66_source.specs.Source.{Line, begins_block, block_of, classed_lines, classes_from, instructions, label_after, parts_of, place_after, put_before, run_after, source_of}

@@ -2,7 +2,7 @@
 use Rattle.std.proofs.Common.{◌≡◌, ◌≤◌, ◌<◌, ◌+◌, ◌==◌, ◌∙◌, ℕ, suc, Bool, true, false, if◌then◌else◌, Option, None, Some, List, [], ◌∷◌, ◌++◌, drop, get_or, length, map, refl, sym, ap, ap₂, append_assoc, arith, slice_get, subst}
 use Rattle.std.specs.Prelude.{Ok}
 use Rattle.std.proofs.lemmas.List.{append-nil, drop_all}
-use Rattle.s66_line.specs.Block.{Block, line_of}
+use Rattle.s66_line.specs.Blocks.{Block, line_of}
 use Rattle.s66_line.specs.Fields.{trim, is_trailing}
 use Rattle.s66_source.specs.Frame.{FramePart, block_part, frame_of, frame_of_lines}
 use Rattle.s66_source.specs.Kept.{KeptLine, begins_at, is_beside_by, kept_line, part_by}

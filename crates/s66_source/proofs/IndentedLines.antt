@@ -2,10 +2,10 @@
 use Rattle.std.proofs.Common.{◌≡◌, ◌≤◌, ◌<◌, ◌-◌, ◌==◌, ℕ, zero, suc, Bool, false, true, eqb-true, List, [], ◌∷◌, ◌++◌, codes, get_or, inl, inr, length, map, replicate, take, refl, sym, ap, ◌∙◌, arith}
 use Rattle.std.proofs.lemmas.List.{take-replicate}
 use Rattle.s66_isa.specs.Lists.{Among}
-use Rattle.s66_line.specs.Block.{Block, Entry, bytes_of}
+use Rattle.s66_line.specs.Blocks.{Block, Entry, bytes_of}
 use Rattle.s66_line.specs.Fields.{body, from_operation, trim, is_trailing}
 use Rattle.s66_isa.specs.declared.instr.Instr.{Instr}
-use Rattle.s66_line.specs.Class.{class_of}
+use Rattle.s66_line.specs.Classes.{class_of}
 use Rattle.s66_source.proofs.CharactersRead.{SpellsAll}
 use Rattle.s66_line.specs.declared.class.Class.TheVariants.{Instruction}
 use Rattle.s66_source.specs.Columns.{bytes_on, indent, indented_lines, indents, line_start}

@@ -4,7 +4,7 @@ use Rattle.std.specs.Prelude.{MatchOption, Ok, option_map}
 use Rattle.std.proofs.lemmas.Bool.{cases_lt, eq-eqb, le-ltb, lt-ltb, ne_eqb}
 use Rattle.std.proofs.lemmas.List.{append-nil, drop_all}
 use Rattle.s66_isa.specs.Lists.{Among}
-use Rattle.s66_line.specs.Block.{Block, Entry, line_of}
+use Rattle.s66_line.specs.Blocks.{Block, Entry, line_of}
 use Rattle.s66_line.specs.Fields.{body}
 use Rattle.s66_line.specs.declared.class.Class.{Class}
 use Rattle.s66_line.specs.declared.class.Class.TheVariants.{Comment, Other, Refused, Pad, Instruction}

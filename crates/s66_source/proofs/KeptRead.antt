@@ -1,7 +1,7 @@
 -- The lines that reading keeps are those of the definition.
 use Rattle.std.proofs.Common.{◌≡◌, ◌∙◌, ℕ, suc, Bool, false, List, [], ◌∷◌, ◌++◌, map, sym, append_assoc}
 use Rattle.std.proofs.lemmas.List.{append-nil}
-use Rattle.s66_line.specs.Class.{is_code}
+use Rattle.s66_line.specs.Classes.{is_code}
 use Rattle.s66_line.specs.declared.class.Class.{Class}
 use Rattle.s66_source.specs.Kept.{Kept, kept_line, nothing_kept, put_line, put_lines}
 use Rattle.s66_source.specs.LeftAlone.{Flagged, Reading, class_at, flagged_lines}

@@ -5,8 +5,8 @@ use Rattle.std.proofs.Math.Bool.{and-false}
 use Rattle.std.proofs.lemmas.Bool.{cases_lt, le-ltb, ltb-false}
 use Rattle.s66_isa.specs.Lists.{Among, tally, some_of}
 use Rattle.s66_source.specs.Source.{Line, run_after, place_after, label_after, classes_from, classed_lines, operand_refusal, refusal_at, or_else, refusal, instructions, parts_of, entry_of, block_of, blocks_of, unless_refused, source_of}
-use Rattle.s66_line.specs.Block.{Block, line_of}
-use Rattle.s66_line.specs.Class.{is_instruction, is_code, ends_run}
+use Rattle.s66_line.specs.Blocks.{Block, line_of}
+use Rattle.s66_line.specs.Classes.{is_instruction, is_code, ends_run}
 use Rattle.s66_source.specs.LeftAlone.{Reading, Flagged, class_at, flagged_lines}
 use Rattle.s66_source.specs.BlockParts.{all_of}
 use Rattle.s66_source.specs.Roles.{is_comment_class, is_pad_class, is_note_of, is_note, has_block, roles}

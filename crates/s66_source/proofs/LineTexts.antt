@@ -6,8 +6,8 @@ use Rattle.std.proofs.lemmas.List.{length-append}
 use Rattle.s66_isa.proofs.Lists.{tally-append}
 use Rattle.s66_isa.specs.Lists.{some_of, tally}
 use Rattle.s66_isa.specs.declared.instr.Instr.{Instr}
-use Rattle.s66_line.specs.Block.{Block, line_of}
-use Rattle.s66_line.specs.Class.{is_code, is_instruction}
+use Rattle.s66_line.specs.Blocks.{Block, line_of}
+use Rattle.s66_line.specs.Classes.{is_code, is_instruction}
 use Rattle.s66_line.specs.declared.class.Class.{Class}
 use Rattle.s66_line.specs.declared.class.Class.TheVariants.{Other, Pad, Instruction}
 use Rattle.s66_isa.specs.declared.limits.TheConstants.{BLOCK_LIMIT}

@@ -7,7 +7,7 @@ use Rattle.std.proofs.Math.Nat.{suc-mod, mod-eq_of_lt}
 use Rattle.s66_isa.specs.Lists.{Among}
 use Rattle.s66_isa.specs.declared.limits.TheConstants.{BLOCK_LIMIT}
 use Rattle.s66_source.specs.Source.{Line, run_at, run_after, place_at, place_after, label_at, label_after, classes_from, classed_lines, instructions, begins_block, put_before, parts_of}
-use Rattle.s66_line.specs.Class.{is_code}
+use Rattle.s66_line.specs.Classes.{is_code}
 use Rattle.s66_source.specs.LeftAlone.{Reading, Flagged, class_at, flagged_lines}
 use Rattle.s66_source.specs.BlockParts.{all_of, AreFull, AreParts}
 use Rattle.s66_line.specs.declared.class.Class.{Class}

@@ -5,8 +5,8 @@ use Rattle.s66_isa.specs.Lists.{Among}
 use Rattle.s66_line.specs.Fields.{lines_of}
 use Rattle.s66_source.specs.LeftAlone.{Reading, Flagged, class_at, at_first, flagged_lines, redefined_by}
 use Rattle.s66_source.specs.Source.{Line, run_at, run_after, place_after, label_after, classes_from, classed_lines, refusal, refusal_at, instructions, blocks_of, source_of, place_at, label_at}
-use Rattle.s66_line.specs.Block.{Block}
-use Rattle.s66_line.specs.Class.{is_instruction, is_code, ends_run}
+use Rattle.s66_line.specs.Blocks.{Block}
+use Rattle.s66_line.specs.Classes.{is_instruction, is_code, ends_run}
 use Rattle.s66_line.specs.declared.class.Class.{Class}
 use Rattle.s66_line.specs.declared.class.Class.TheVariants.{Comment, Other, Refused, Pad, Instruction}
 use Rattle.s66_source.specs.declared.limits.TheConstants.{SOURCE_LINES_LIMIT}

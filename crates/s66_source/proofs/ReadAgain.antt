@@ -9,13 +9,13 @@ use Rattle.s66_isa.specs.Lists.{every}
 use Rattle.s66_line.specs.Fields.{body, continues, from_operation, label_bytes, is_comment}
 use Rattle.s66_line.specs.Operand.{is_filled}
 use Rattle.s66_source.specs.Source.{Line, run_at, run_after, place_at, place_after, label_at, label_after, classes_from, operand_refusal, refusal_at, refusal, instructions, begins_block, put_before, parts_of, entry_of, block_of}
-use Rattle.s66_line.specs.Block.{Block, Entry}
-use Rattle.s66_line.specs.Class.{class_of, is_code, begins_run, instr_in}
+use Rattle.s66_line.specs.Blocks.{Block, Entry}
+use Rattle.s66_line.specs.Classes.{class_of, is_code, begins_run, instr_in}
 use Rattle.s66_source.specs.LeftAlone.{Flagged, Standing, after_line, class_at, is_alone, is_continued, flagged_from}
 use Rattle.s66_source.specs.Printed.{Placed, copied_line}
 use Rattle.s66_source.specs.ReadAgain.{AreComplete, AreGivenAgain, IsGivenAgain, IsSameAgain}
 use Rattle.s66_source.specs.Reader.{SourceState, with_open, end_block, begin_run, begin_run_if, count_line, by_class, and_then}
-use Rattle.s66_source.specs.Redefined.{Redefined}
+use Rattle.s66_source.specs.Redefinitions.{Redefined}
 use Rattle.s66_source.specs.Replaced.{AreGiven, anew_text, begins, line_text, others, replaced, text_for}
 use Rattle.s66_source.specs.Roles.{is_comment_class}
 use Rattle.s66_source.specs.declared.columns.Columns.{Columns}

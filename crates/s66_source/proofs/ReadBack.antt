@@ -4,7 +4,7 @@ use Rattle.std.proofs.lemmas.Bool.{and_parts, not-true}
 use Rattle.std.proofs.lemmas.List.{append-nil}
 use Rattle.s66_isa.specs.Lists.{every}
 use Rattle.s66_line.specs.Fields.{trim, body, is_return, is_newline, is_comment, continues, lines_from, lines_of, from_operation}
-use Rattle.s66_line.specs.Class.{class_of, by_operation, is_located}
+use Rattle.s66_line.specs.Classes.{class_of, by_operation, is_located}
 use Rattle.s66_line.specs.declared.class.Class.{Class}
 use Rattle.s66_line.specs.declared.class.Class.TheVariants.{Comment, Other, Refused}
 use Rattle.s66_line.proofs.LineCuts.{lines_from-here, lines_from-later}

@@ -6,13 +6,13 @@ use Rattle.s66_isa.specs.declared.instr.Instr.{Instr}
 use Rattle.s66_isa.specs.Lists.{Among, every}
 use Rattle.s66_isa.specs.Table.{instr_at}
 use Rattle.s66_line.specs.Fields.{trim, body, from_operation, label_bytes, is_trailing}
-use Rattle.s66_line.specs.Class.{is_code}
+use Rattle.s66_line.specs.Classes.{is_code}
 use Rattle.s66_line.specs.Operand.{is_filled}
 use Rattle.s66_source.proofs.CharactersRead.{SpellsAll}
 use Rattle.s66_source.specs.Columns.{bytes_on, indent, indented_line, indented_lines, indents, line_start}
 use Rattle.s66_source.specs.declared.columns.Columns.{Columns}
 use Rattle.s66_source.specs.Source.{Line}
-use Rattle.s66_line.specs.Block.{Entry, Block, instrs_of, entry_at, bytes_of}
+use Rattle.s66_line.specs.Blocks.{Entry, Block, instrs_of, entry_at, bytes_of}
 use Rattle.s66_source.specs.Printed.{Placed, report, notes_text}
 use Rattle.s66_source.specs.Replaced.{anew_text}
 use Rattle.s66_source.specs.ReadAgain.{IsPlacedAgain}
@@ -23,7 +23,7 @@ use Rattle.s66_isa.specs.declared.limits.TheConstants.{BLOCK_LIMIT}
 use Rattle.s66_line.proofs.BlockEntries.{instr_at-entry}
 use Rattle.s66_source.proofs.ReadLine.{IsLabel, inside-start}
 use Rattle.s66_source.specs.LeftAlone.{is_alone, Standing}
-use Rattle.s66_source.specs.Redefined.{Redefined}
+use Rattle.s66_source.specs.Redefinitions.{Redefined}
 use Rattle.s66_source.proofs.FarOperands.{Fits, clear-printed, is_unclear, read-start}
 use Rattle.s66_source.proofs.Standings.{code-line, code-stays}
 use Rattle.s66_source.proofs.ReadStanding.{is_holding, not-alone, code-unflagged, continues-body, goes_on, goes-line, IsQuiet}

@@ -7,8 +7,8 @@ use Rattle.std.proofs.lemmas.List.{append-nil}
 use Rattle.s66_isa.specs.Lists.{every}
 use Rattle.s66_line.specs.Fields.{is_return, lines_of, body, is_comment, continues, from_operation, label_bytes}
 use Rattle.s66_source.specs.Source.{Line, run_after, place_after, label_after, classes_from, operand_refusal}
-use Rattle.s66_line.specs.Block.{Block, line_of}
-use Rattle.s66_line.specs.Class.{class_of, is_located, by_operation, is_code}
+use Rattle.s66_line.specs.Blocks.{Block, line_of}
+use Rattle.s66_line.specs.Classes.{class_of, is_located, by_operation, is_code}
 use Rattle.s66_source.specs.LeftAlone.{Flagged, after_line, class_at, is_alone, is_continued, is_doubtful, flagged_from, Standing}
 use Rattle.s66_source.specs.Roles.{is_comment_class, is_note_of}
 use Rattle.s66_source.specs.Printed.{Placed, splits_line, bound_text, times_text, report, copied_line, notes_text}

@@ -8,7 +8,7 @@ use Rattle.s66_isa.specs.Lists.{every}
 use Rattle.s66_line.specs.Fields.{is_blank, is_newline, is_return, trim, body, upper, skip_blanks, word, after_word, blanks, is_comment, from_location, from_operation, continues, label_bytes, is_trailing}
 use Rattle.s66_line.specs.Operand.{is_filled, operation_of, decode, instr_of}
 use Rattle.s66_line.specs.InstructionText.{operation_in, operand_in, Spells}
-use Rattle.s66_line.specs.Class.{class_of, is_pad, is_located, by_operation, begins_run}
+use Rattle.s66_line.specs.Classes.{class_of, is_pad, is_located, by_operation, begins_run}
 use Rattle.s66_source.specs.Columns.{line_start}
 use Rattle.s66_source.specs.Printed.{label_field}
 use Rattle.s66_line.specs.declared.class.Class.TheVariants.{Instruction}

@@ -4,7 +4,7 @@ use Rattle.s66_source.proofs.Directives.{no-star}
 use Rattle.std.specs.Prelude.{bytes_eq}
 use Rattle.std.proofs.lemmas.Bool.{eqb-true, leb-true, ne_eqb, and_parts, and_right, or_parts, or_from}
 use Rattle.s66_isa.specs.Lists.{every}
-use Rattle.s66_line.specs.Class.{class_of}
+use Rattle.s66_line.specs.Classes.{class_of}
 use Rattle.s66_line.specs.Fields.{after_word, body, is_blank, is_comment, is_return, continues, operation, skip_blanks, upper, upper_byte, word, lines_of}
 use Rattle.s66_line.specs.declared.class.Class.{Class}
 use Rattle.s66_source.specs.Counts.{counting_text, is_covering}

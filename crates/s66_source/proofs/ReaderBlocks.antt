@@ -12,8 +12,8 @@ use Rattle.s66_isa.specs.declared.limits.TheConstants.{BLOCK_LIMIT}
 use Rattle.s66_line.specs.declared.limits.TheConstants.{LINE_BYTES_LIMIT}
 use Rattle.s66_source.specs.declared.limits.TheConstants.{SOURCE_LINES_LIMIT}
 use Rattle.s66_source.specs.Source.{Line, run_at, run_after, place_at, place_after, label_at, label_after, classes_from, classed_lines, operand_refusal, or_else, refusal, instructions, begins_block, put_before, parts_of, entry_of, label_in, block_of, blocks_of, unless_refused, source_of}
-use Rattle.s66_line.specs.Block.{Entry, Block}
-use Rattle.s66_line.specs.Class.{is_code}
+use Rattle.s66_line.specs.Blocks.{Entry, Block}
+use Rattle.s66_line.specs.Classes.{is_code}
 use Rattle.s66_source.specs.LeftAlone.{Reading, Flagged, class_at, flagged_lines}
 use Rattle.s66_source.specs.Gives.{Gives}
 use Rattle.s66_source.specs.Reader.{SourceState, Steps, start, end_block, with_open, count_line, by_class, line_step, lines_step, and_then, read_from}

@@ -8,7 +8,7 @@ use Rattle.s66_line.proofs.UpperCase.{kept, same-comment, same-continues, same-l
 use Rattle.s66_source.proofs.CharactersRead.{same-operand_in, same-operation_in}
 use Rattle.s66_source.proofs.ReadLine.{operand-again, operation-again}
 use Rattle.s66_source.specs.Counts.{is_one_of}
-use Rattle.s66_source.specs.Redefined.{Redefined, defined_by, defined_name, form_of, forming, is_redefined, own_operation, redefined_in, renaming, is_short}
+use Rattle.s66_source.specs.Redefinitions.{Redefined, defined_by, defined_name, form_of, forming, is_redefined, own_operation, redefined_in, renaming, is_short}
 
 -- OF BYTES that begin with an operation
 

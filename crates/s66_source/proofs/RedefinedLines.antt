@@ -6,8 +6,8 @@ use Rattle.std.proofs.lemmas.List.{append-nil}
 use Rattle.s66_isa.specs.Lists.{Among, every}
 use Rattle.s66_isa.specs.Table.{instr_at}
 use Rattle.s66_isa.specs.declared.instr.Instr.{Instr}
-use Rattle.s66_line.specs.Block.{Block, bytes_of, instrs_of}
-use Rattle.s66_line.specs.Class.{class_of, class_of_operand, is_code, is_located, is_pad, whole_instr, ends_run}
+use Rattle.s66_line.specs.Blocks.{Block, bytes_of, instrs_of}
+use Rattle.s66_line.specs.Classes.{class_of, class_of_operand, is_code, is_located, is_pad, whole_instr, ends_run}
 use Rattle.s66_line.specs.Fields.{body, continues, from_operation, is_comment, is_return, is_trailing, lines_of, trim}
 use Rattle.s66_line.specs.InstructionText.{operation_in}
 use Rattle.s66_line.specs.Operand.{operation_of}
@@ -19,7 +19,7 @@ use Rattle.s66_source.specs.declared.columns.Columns.{Columns}
 use Rattle.s66_source.specs.Counts.{is_one_of}
 use Rattle.s66_source.specs.LeftAlone.{Flagged, Reading, at_first, class_at, flagged_lines, redefined_by}
 use Rattle.s66_source.specs.Printed.{Placed, copied_line, notes_text, report}
-use Rattle.s66_source.specs.Redefined.{Redefined, defined_by, forming, own_operation, redefined_in, renaming, is_short}
+use Rattle.s66_source.specs.Redefinitions.{Redefined, defined_by, forming, own_operation, redefined_in, renaming, is_short}
 use Rattle.s66_source.specs.Replaced.{AreGiven, anew_text, begins, line_text, owner, printed_in, replaced, text_for, texts_of}
 use Rattle.s66_source.specs.Roles.{is_comment_class, is_note_of}
 use Rattle.s66_source.specs.Source.{Line, blocks_of, classed_lines, classes_from, label_after, place_after, run_after}

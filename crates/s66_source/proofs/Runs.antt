@@ -3,7 +3,7 @@ use Rattle.std.proofs.Common.{◌≡◌, ◌≢◌, ◌≤◌, ◌<◌, ◌==◌
 use Rattle.std.proofs.Math.Bool.{and-false, or-false}
 use Rattle.std.proofs.lemmas.Bool.{eqb-false, ne_eqb, or_right}
 use Rattle.s66_isa.specs.Lists.{some_of}
-use Rattle.s66_line.specs.Class.{is_instruction}
+use Rattle.s66_line.specs.Classes.{is_instruction}
 use Rattle.s66_source.specs.Roles.{has_block}
 use Rattle.s66_source.specs.Source.{Line, instructions}
 use Rattle.s66_source.proofs.PrintedLines.{Ordered, run_behind, run_behind-le}

@@ -3,8 +3,8 @@ use Rattle.std.proofs.Common.{◌≡◌, ◌≤◌, ◌<◌, ◌+◌, ◌-◌, �
 use Rattle.std.specs.Prelude.{Ok}
 use Rattle.std.proofs.lemmas.Bool.{cases_lt, eq-eqb, eqb-false, le-ltb, lt-ltb, ne_eqb, or_parts}
 use Rattle.s66_isa.specs.Lists.{Among, some_of, tally}
-use Rattle.s66_line.specs.Block.{Block, line_of}
-use Rattle.s66_line.specs.Class.{is_instruction}
+use Rattle.s66_line.specs.Blocks.{Block, line_of}
+use Rattle.s66_line.specs.Classes.{is_instruction}
 use Rattle.s66_line.specs.Fields.{body, label_bytes}
 use Rattle.s66_line.specs.declared.class.Class.{Class}
 use Rattle.s66_line.specs.declared.class.Class.TheVariants.{Comment, Other, Refused, Pad, Instruction}

@@ -6,8 +6,8 @@ use Rattle.std.proofs.lemmas.List.{length-map}
 use Rattle.s66_isa.specs.Lists.{Among, every}
 use Rattle.s66_isa.specs.declared.instr.Instr.{Instr}
 use Rattle.s66_isa.specs.declared.limits.TheConstants.{BLOCK_LIMIT}
-use Rattle.s66_line.specs.Block.{Block}
-use Rattle.s66_line.specs.Class.{begins_run, class_of, instr_in, is_code}
+use Rattle.s66_line.specs.Blocks.{Block}
+use Rattle.s66_line.specs.Classes.{begins_run, class_of, instr_in, is_code}
 use Rattle.s66_line.specs.Fields.{body, from_operation, is_return, label_bytes, lines_of}
 use Rattle.s66_line.specs.Operand.{is_filled}
 use Rattle.s66_line.specs.declared.class.Class.{Class}
@@ -17,7 +17,7 @@ use Rattle.s66_source.specs.BlockParts.{all_of}
 use Rattle.s66_source.specs.Columns.{bytes_on, indent}
 use Rattle.s66_source.specs.LeftAlone.{Flagged, Reading, Standing, after_line, at_first, class_at, flagged_from, is_alone, is_continued, is_held, redefined_by}
 use Rattle.s66_source.specs.Printed.{Placed}
-use Rattle.s66_source.specs.Redefined.{Redefined}
+use Rattle.s66_source.specs.Redefinitions.{Redefined}
 use Rattle.s66_source.specs.Replaced.{AreGiven, anew_text, text_for, texts_of}
 use Rattle.s66_source.specs.Source.{Line, block_of, blocks_of, classed_lines, classes_from, entry_of, instructions, label_after, label_at, label_in, parts_of, place_after, place_at, run_after, run_at, source_of}
 use Rattle.s66_source.specs.declared.columns.Columns.{Columns}

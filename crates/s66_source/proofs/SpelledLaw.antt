@@ -8,10 +8,10 @@ use Rattle.s66_isa.proofs.Lists.{among-front, among-rest}
 use Rattle.s66_line.specs.Fields.{is_return, body}
 use Rattle.s66_line.specs.InstructionText.{IsTextOf}
 use Rattle.s66_source.specs.LeftAlone.{Reading, redefined_by}
-use Rattle.s66_source.specs.Redefined.{Redefined}
+use Rattle.s66_source.specs.Redefinitions.{Redefined}
 use Rattle.s66_source.specs.declared.columns.Columns.TheVariants.{Usual}
 use Rattle.s66_source.specs.Source.{Line, classed_lines, refusal, instructions, parts_of, entry_of, block_of, blocks_of, source_of}
-use Rattle.s66_line.specs.Block.{Entry, Block, instrs_of, text_of}
+use Rattle.s66_line.specs.Blocks.{Entry, Block, instrs_of, text_of}
 use Rattle.s66_source.specs.BlockParts.{all_of}
 use Rattle.s66_isa.specs.declared.limits.TheConstants.{BLOCK_LIMIT}
 use Rattle.s66_line.specs.declared.limits.TheConstants.{LINE_BYTES_LIMIT, TEXT_LIMIT}

@@ -7,7 +7,7 @@ use Rattle.std.proofs.lemmas.Slice.Eq.{bytes_eq-Decides}
 use Rattle.std.proofs.lemmas.Bool.{and_parts, eqb-true, ltb-false, or_cases, or_left, or_parts, or_from, false_from_ne_true, not_from_true, true≢false}
 use Rattle.std.proofs.lemmas.List.{length-take, take-take, take_all}
 use Rattle.s66_isa.specs.Lists.{every, some_of}
-use Rattle.s66_line.specs.Class.{class_of, is_code}
+use Rattle.s66_line.specs.Classes.{class_of, is_code}
 use Rattle.s66_line.specs.Fields.{after_word, body, continues, is_blank, is_comment, is_return, operand, operation, skip_blanks, trim, upper, upper_byte, word}
 use Rattle.s66_line.proofs.LineFields.{word-length, word-take}
 use Rattle.s66_line.proofs.UpperCase.{length-upper}

@@ -1,6 +1,6 @@
 -- To be believed: which lines of a source are left alone. Such a line is an Other line, whatever it holds.
 use Rattle.std.specs.Prelude.{ℕ, zero, suc, Bool, true, false, not, ◌&&◌, ◌||◌, ◌==◌, ◌-◌, if◌then◌else◌, List, [], ◌∷◌, Option, None, Some, codes, drop, length, nat_le, nat_lt, bytes_eq, take}
-use Rattle.s66_line.specs.Class.{class_of}
+use Rattle.s66_line.specs.Classes.{class_of}
 use Rattle.s66_line.specs.Fields.{after_word, body, continues, from_operand, from_operation, is_blank, is_comment, label_bytes, lines_of, operation, skip_blanks, upper, word}
 use Rattle.s66_line.specs.declared.class.Class.{Class}
 use Rattle.s66_line.specs.declared.class.Class.TheVariants.{Instruction, Other, Pad, Refused}
@@ -12,7 +12,7 @@ use Rattle.s66_source.specs.declared.cover.Cover.{Cover}
 use Rattle.s66_source.specs.declared.cover.Cover.TheVariants.{Nothing}
 use Rattle.s66_source.specs.declared.limits.TheConstants.{DIRECTIVE_LIMIT}
 use Rattle.s66_source.specs.declared.cover.Covered.{Covered}
-use Rattle.s66_source.specs.Redefined.{Redefined, is_redefined, nothing_redefined, redefined_in}
+use Rattle.s66_source.specs.Redefinitions.{Redefined, is_redefined, nothing_redefined, redefined_in}
 
 -- a text, and whether it is read with `--cut`
 pub record Reading : Type 0 where

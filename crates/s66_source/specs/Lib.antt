@@ -1,5 +1,5 @@
 pub mod Counts
-pub mod Redefined
+pub mod Redefinitions
 pub mod Redefining
 pub mod LeftAlone
 pub mod Source

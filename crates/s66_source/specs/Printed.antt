@@ -5,7 +5,7 @@ unfoldable pub use Rattle.std.specs.Fmt.{digits}
 use Rattle.s66_isa.specs.Lists.{Among}
 use Rattle.s66_line.specs.Fields.{body, trim, is_trailing}
 use Rattle.s66_source.specs.Source.{Line}
-use Rattle.s66_line.specs.Block.{Block, bytes_of}
+use Rattle.s66_line.specs.Blocks.{Block, bytes_of}
 use Rattle.s66_source.specs.Roles.{is_note_of}
 
 -- how a block is to be printed, and what is reported of it; times are in minor cycles

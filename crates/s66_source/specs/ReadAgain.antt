@@ -2,7 +2,7 @@
 use Rattle.std.specs.Prelude.{◌≡◌, ℕ, List, [], ◌∷◌, get_or, length, map, Option, None, Some}
 use Rattle.s66_isa.specs.Table.{instr_at}
 use Rattle.s66_line.specs.Fields.{trim, is_trailing}
-use Rattle.s66_line.specs.Block.{Entry, Block, instrs_of, bytes_of}
+use Rattle.s66_line.specs.Blocks.{Entry, Block, instrs_of, bytes_of}
 use Rattle.s66_source.specs.Replaced.{others}
 use Rattle.s66_source.specs.Printed.{Placed}
 

@@ -2,7 +2,7 @@
 use Rattle.std.specs.Prelude.{◌≡◌, ◌==◌, if◌then◌else◌, ℕ, suc, Bool, true, false, List, [], ◌∷◌, ◌++◌, Result, Ok, Err, nat_lt, nat_le, length}
 use Rattle.s66_isa.specs.declared.instr.Instr.{Instr}
 use Rattle.s66_line.specs.Fields.{body, from_operation, label_bytes}
-use Rattle.s66_line.specs.Block.{Block, Entry}
+use Rattle.s66_line.specs.Blocks.{Block, Entry}
 use Rattle.s66_source.specs.LeftAlone.{Flagged, class_at}
 use Rattle.s66_line.specs.declared.class.Class.{Class}
 use Rattle.s66_line.specs.declared.class.Class.TheVariants.{Comment, Other, Refused, Pad, Instruction}

@@ -3,7 +3,7 @@ use Rattle.std.specs.Prelude.{ℕ, Bool, false, ◌&&◌, ◌||◌, ◌==◌, Li
 use Rattle.std.specs.declared.alloc.Global.{Global}
 use Rattle.std.specs.declared.vec.Vec.{Vec}
 use Rattle.s66_line.specs.Fields.{body}
-use Rattle.s66_source.specs.Redefined.{Redefined, defined_by, forming, is_short, renaming}
+use Rattle.s66_source.specs.Redefinitions.{Redefined, defined_by, forming, is_short, renaming}
 use Rattle.std.specs.List.{filter}
 
 abbrev pub names_in : List (Vec ℕ Global) → List (List ℕ)

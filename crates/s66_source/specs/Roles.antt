@@ -6,8 +6,8 @@ use Rattle.s66_line.specs.declared.class.Class.{Class}
 use Rattle.s66_line.specs.declared.class.Class.TheVariants.{Comment, Pad}
 use Rattle.s66_source.specs.LeftAlone.{Reading}
 use Rattle.s66_source.specs.Source.{Line, classed_lines, blocks_of}
-use Rattle.s66_line.specs.Block.{Block, line_of}
-use Rattle.s66_line.specs.Class.{is_instruction, ends_run}
+use Rattle.s66_line.specs.Blocks.{Block, line_of}
+use Rattle.s66_line.specs.Classes.{is_instruction, ends_run}
 
 abbrev pub is_comment_class : Class → Bool
 is_comment_class Comment = true

@@ -2,8 +2,8 @@
 use Rattle.std.specs.Prelude.{◌==◌, if◌then◌else◌, ℕ, suc, Bool, false, List, [], ◌∷◌, ◌%◌, Option, None, Some, Result, Ok, Err, nat_lt, length, map}
 use Rattle.std.specs.List.{filter}
 use Rattle.s66_line.specs.Fields.{body, from_operation, label_bytes}
-use Rattle.s66_line.specs.Block.{Entry, Block}
-use Rattle.s66_line.specs.Class.{is_instruction, is_code, begins_run, ends_run, instr_in}
+use Rattle.s66_line.specs.Blocks.{Entry, Block}
+use Rattle.s66_line.specs.Classes.{is_instruction, is_code, begins_run, ends_run, instr_in}
 use Rattle.s66_source.specs.LeftAlone.{Reading, Flagged, class_at, flagged_lines}
 use Rattle.s66_line.specs.declared.class.Class.{Class}
 use Rattle.s66_line.specs.declared.class.Class.TheVariants.{Refused}

@@ -43,7 +43,7 @@ impl<'s, 'a> Keeper<'s, 'a> {
     ghost use Rattle.s66_isa.specs.Lists.{Among};
     ghost use Rattle.s66_source.specs.Keeper.{IsKeeper, block_at, last_of, owner_by, placed_of, text_by, text_in, whole_text};
     ghost use Rattle.s66_source.specs.Kept.{kept_line};
-    ghost use Rattle.s66_line.specs.Block.{Block as BlockOf};
+    ghost use Rattle.s66_line.specs.Blocks.{Block as BlockOf};
     ghost use Rattle.s66_source.specs.Columns.{indented_lines, indents};
     ghost use Rattle.s66_source.specs.Printed.{Placed as PlacedOf, notes_text};
     ghost use Rattle.s66_source.specs.Replaced.{anew_text};

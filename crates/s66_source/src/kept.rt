@@ -1,8 +1,8 @@
 //! The lines of a source as they are kept: the bytes of each, what of its class printing has to know, and where it stands in its run.
 
 ghost use Rattle.std.specs.Prelude.{◌≡◌, ◌<◌, suc, if◌then◌else◌, length, option_map};
-ghost use Rattle.s66_line.specs.Block.{line_of};
-ghost use Rattle.s66_line.specs.Class.{begins_run};
+ghost use Rattle.s66_line.specs.Blocks.{line_of};
+ghost use Rattle.s66_line.specs.Classes.{begins_run};
 ghost use Rattle.s66_source.specs.Keeper.{bytes_at};
 ghost use Rattle.s66_source.specs.Kept.{begins_at, has_block_by, kind_of, runs_next};
 ghost use Rattle.s66_source.specs.declared.limits.TheConstants.{SOURCE_LINES_LIMIT};

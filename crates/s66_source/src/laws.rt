@@ -16,9 +16,9 @@ ghost use Rattle.s66_source.specs.LeftAlone.{Flagged, Reading, flagged_lines, is
 ghost use Rattle.s66_source.specs.declared.error.SourceError.TheVariants.{BadOperand};
 ghost use Rattle.s66_source.specs.declared.cover.Cover.TheVariants.{Nothing, Lines, ToItsEnd};
 ghost use Rattle.s66_source.specs.Source.{Line, classed_lines, instructions, parts_of, blocks_of, source_of};
-ghost use Rattle.s66_line.specs.Block.{Block, instrs_of, text_of, constants_in};
+ghost use Rattle.s66_line.specs.Blocks.{Block, instrs_of, text_of, constants_in};
 ghost use Rattle.s66_line.specs.Characters.{runs_on};
-ghost use Rattle.s66_line.specs.Class.{class_of, is_instruction};
+ghost use Rattle.s66_line.specs.Classes.{class_of, is_instruction};
 ghost use Rattle.s66_isa.specs.declared.limits.TheConstants.{BLOCK_LIMIT};
 ghost use Rattle.s66_source.specs.BlockParts.{AreParts};
 ghost use Rattle.s66_source.specs.Printed.{Placed, instruction_lines, label_field};

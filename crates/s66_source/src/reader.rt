@@ -6,7 +6,7 @@ ghost use Rattle.s66_line.specs.Fields.{lines_from};
 ghost use Rattle.s66_line.specs.InstructionText.{Spells};
 ghost use Rattle.s66_source.specs.Kept.{put_line, put_lines};
 ghost use Rattle.s66_source.specs.Reader.{Steps, end_block, begin_run, with_entry, by_class, line_step, lines_step};
-ghost use Rattle.s66_line.specs.Class.{IsSpelled, is_code};
+ghost use Rattle.s66_line.specs.Classes.{IsSpelled, is_code};
 ghost use Rattle.s66_source.specs.SourceReader.{flagged, state};
 ghost use Rattle.s66_source.specs.LeftAlone.{after_line, class_at, flagged_from};
 ghost use Rattle.s66_isa.specs.declared.limits.TheConstants.{BLOCK_LIMIT};

@@ -8,7 +8,7 @@ ghost use Rattle.s66_line.specs.Fields.{body, continues, from_operation, is_comm
 ghost use Rattle.s66_line.specs.Operand.{is_sign};
 ghost use Rattle.s66_source.specs.Counts.{is_one_of};
 ghost use Rattle.s66_source.specs.LeftAlone.{has_operation};
-ghost use Rattle.s66_source.specs.Redefined.{defined_name, ends_name, form_in, form_of, forming, is_bank, is_in_name, is_redefined, is_short, letters_of, nothing_redefined, own_operation, redefined_in, renaming};
+ghost use Rattle.s66_source.specs.Redefinitions.{defined_name, ends_name, form_in, form_of, forming, is_bank, is_in_name, is_redefined, is_short, letters_of, nothing_redefined, own_operation, redefined_in, renaming};
 ghost use Rattle.s66_source.specs.Redefining.{names_in, one_begins_so};
 ghost use Rattle.s66_line.specs.declared.limits.TheConstants.{TEXT_LIMIT};
 
@@ -284,7 +284,7 @@ pub struct Redefined {
 }
 
 impl Model for Redefined {
-    ghost use Rattle.s66_source.specs.Redefined.{Redefined};
+    ghost use Rattle.s66_source.specs.Redefinitions.{Redefined};
     ghost use Rattle.s66_source.specs.Redefining.{names_in};
 
     ghost Value = { Redefined };
@@ -298,7 +298,7 @@ impl Redefined {
     ghost use Rattle.s66_source.specs.LeftAlone.{redefined_by};
     ghost use Rattle.s66_line.specs.InstructionText.{operation_in};
     ghost use Rattle.s66_source.specs.Counts.{is_one_of};
-    ghost use Rattle.s66_source.specs.Redefined.{form_in, is_redefined, nothing_redefined, redefined_in};
+    ghost use Rattle.s66_source.specs.Redefinitions.{form_in, is_redefined, nothing_redefined, redefined_in};
     ghost use Rattle.s66_source.specs.Redefining.{with_bodies, with_lines};
     ghost use Rattle.s66_line.specs.declared.limits.TheConstants.{TEXT_LIMIT};
 

@@ -2,7 +2,7 @@
 //! operand that isn't seen. It is a state that each line moves on, which `reader.rt`, `frame.rt` and `s66_lint` share.
 
 ghost use Rattle.std.specs.Prelude.{◌≡◌, ◌≤◌, ◌<◌, ◌&&◌, ◌||◌, suc, false, if◌then◌else◌, true, bytes_eq, codes, length, take};
-ghost use Rattle.s66_line.specs.Class.{IsSpelled, class_of, is_code};
+ghost use Rattle.s66_line.specs.Classes.{IsSpelled, class_of, is_code};
 ghost use Rattle.s66_line.specs.Fields.{body, from_operation, is_comment, label_bytes, operation, upper};
 ghost use Rattle.s66_source.specs.Counts.{counting_text};
 ghost use Rattle.s66_source.specs.Roles.{is_comment_class};

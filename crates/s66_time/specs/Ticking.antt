@@ -7,7 +7,7 @@ use Rattle.s66_model.specs.Timing.{Problem, Point, points_of}
 use Rattle.s66_model.specs.Digits.{HaveDigits}
 use Rattle.s66_model.specs.LegalOrder.{IsBeginning}
 use Rattle.s66_isa.specs.declared.limits.TheConstants.{BLOCK_LIMIT}
-use Rattle.s66_line.specs.Block.{Block, instrs_of}
+use Rattle.s66_line.specs.Blocks.{Block, instrs_of}
 use Rattle.s66_time.specs.ClockWords.{AreKept, AreCopies}
 use Rattle.s66_time.specs.KeptUnits.{kept_of}
 use Rattle.s66_time.specs.LatestWords.{kept_in}

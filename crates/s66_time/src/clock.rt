@@ -6,7 +6,7 @@
 
 ghost use Rattle.std.specs.Prelude.{◌≡◌, map};
 ghost use Rattle.s66_isa.specs.Table.{row};
-ghost use Rattle.s66_line.specs.Block.{instrs_of};
+ghost use Rattle.s66_line.specs.Blocks.{instrs_of};
 ghost use Rattle.s66_model.specs.Digits.{HaveDigits};
 
 use crate::copies::Copies;
@@ -40,7 +40,7 @@ pub struct Clock<'a> {
 }
 
 impl<'a> Model for Clock<'a> {
-    ghost use Rattle.s66_line.specs.Block.{instrs_of};
+    ghost use Rattle.s66_line.specs.Blocks.{instrs_of};
     ghost use Rattle.s66_time.specs.Ticking.{Ticking, numbers_of, IsTicking};
 
     ghost Value = { Ticking };
@@ -74,7 +74,7 @@ impl<'a> Clock<'a> {
     ghost use Rattle.s66_isa.specs.Table.{Reg as RegOf, copies_of, kind_of, instr_at, has_reg, memory_pair};
     ghost use Rattle.s66_isa.specs.Registers.{registers_in};
     ghost use Rattle.s66_isa.specs.Members.{numbers_in};
-    ghost use Rattle.s66_line.specs.Block.{instrs_of};
+    ghost use Rattle.s66_line.specs.Blocks.{instrs_of};
     ghost use Rattle.s66_isa.specs.declared.limits.TheConstants.{BLOCK_LIMIT};
     ghost use Rattle.s66_model.specs.LegalOrder.{is_ready, IsBeginning};
     ghost use Rattle.s66_model.specs.Timing.{Point, next, total, slot_of, busy_at, done_of, readers_wait};

@@ -5,7 +5,7 @@ use Rattle.std.proofs.lemmas.List.{append-nil, length-reverse, take_more}
 use Rattle.s66_isa.proofs.Lists.{weigh-append}
 use Rattle.s66_isa.specs.Lists.{weigh}
 use Rattle.s66_isa.specs.declared.instr.Kind.{Kind}
-use Rattle.s66_line.specs.Block.{Block, bytes_of}
+use Rattle.s66_line.specs.Blocks.{Block, bytes_of}
 use Rattle.s66_model.specs.Timing.{Point}
 use Rattle.s66_why.specs.Why.{stretches_at}
 use Rattle.s66_why.proofs.Earlier.{earlier-more}

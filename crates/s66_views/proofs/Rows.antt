@@ -4,7 +4,7 @@ use Rattle.std.proofs.lemmas.List.{append-nil, take-append-drop}
 use Rattle.s66_isa.specs.KindNames.{kind_name}
 use Rattle.s66_isa.specs.Lists.{Among}
 use Rattle.s66_isa.specs.Table.{latency_of}
-use Rattle.s66_line.specs.Block.{Block, bytes_of}
+use Rattle.s66_line.specs.Blocks.{Block, bytes_of}
 use Rattle.s66_model.specs.Timing.{Problem, Point, point_of, points_after, points_of}
 use Rattle.s66_model.proofs.PointTimes.{points_after-append}
 use Rattle.s66_time.specs.TimedOrder.{TimedOrder, point_at}

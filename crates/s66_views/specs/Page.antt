@@ -13,7 +13,7 @@ use Rattle.s66_isa.specs.declared.instr.Kind.{Kind}
 use Rattle.s66_isa.specs.declared.instr.Kind.TheVariants.{Boolean, Shift, Add, LongAdd, Multiply, Divide, Increment}
 use Rattle.s66_command.specs.Changes.{changes, changes_text}
 use Rattle.s66_command.specs.declared.changes.Change.{Change}
-use Rattle.s66_line.specs.Block.{Block, bytes_of, instrs_of, line_of}
+use Rattle.s66_line.specs.Blocks.{Block, bytes_of, instrs_of, line_of}
 use Rattle.s66_model.specs.Timing.{Point, points_of}
 use Rattle.s66_time.specs.TimedOrder.{TimedOrder}
 use Rattle.s66_why.specs.declared.cause.Cause.{Cause}

@@ -2,7 +2,7 @@
 use Rattle.std.specs.Prelude.{ℕ, List, [], ◌∷◌, codes}
 use Rattle.s66_isa.specs.declared.instr.Instr.{Instr}
 use Rattle.s66_isa.specs.Table.{instr}
-use Rattle.s66_line.specs.Block.{Block}
+use Rattle.s66_line.specs.Blocks.{Block}
 use Rattle.s66_model.specs.Examples.{standard_problem}
 use Rattle.s66_time.specs.TimedOrder.{TimedOrder}
 use Rattle.s66_views.specs.FoundOrders.{FoundOrder}

@@ -3,7 +3,7 @@
 -- `PAGE_PAIRS` is a constant: what stands between the profile and the list.
 use Rattle.std.specs.Prelude.{ℕ, ◌≡◌, ◌+◌, Bool, true, List, [], ◌∷◌, ◌++◌, Ok, Option, Some, codes, decimal, slice_get}
 use Rattle.s66_isa.specs.declared.profile.Profile.{Profile}
-use Rattle.s66_line.specs.Block.{Block, instrs_of}
+use Rattle.s66_line.specs.Blocks.{Block, instrs_of}
 use Rattle.s66_source.specs.Frame.{frame_of}
 use Rattle.s66_source.specs.LeftAlone.{Reading}
 use Rattle.s66_source.specs.Source.{source_of}

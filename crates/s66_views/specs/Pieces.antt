@@ -7,7 +7,7 @@ use Rattle.s66_isa.specs.declared.profile.Profile.{Profile}
 use Rattle.s66_isa.specs.Table.{Reg, Row, Write, numbers}
 use Rattle.s66_command.specs.Changes.{changes, name_at}
 use Rattle.s66_command.specs.declared.changes.Change.{Change}
-use Rattle.s66_line.specs.Block.{Block, instrs_of, line_of, whole_text_of}
+use Rattle.s66_line.specs.Blocks.{Block, instrs_of, line_of, whole_text_of}
 use Rattle.s66_model.specs.Dependence.{needs}
 use Rattle.s66_model.specs.Timing.{Point, ResultAt, latest_result, total_of}
 use Rattle.s66_time.specs.TimedOrder.{TimedOrder}

@@ -6,7 +6,7 @@ use Rattle.s66_isa.specs.declared.reg.TheConstants.{REGISTER_COUNT}
 use Rattle.s66_isa.specs.KindNames.{kind_name}
 use Rattle.s66_isa.specs.Registers.{register_at}
 use Rattle.s66_isa.specs.Table.{Reg, all_kinds}
-use Rattle.s66_line.specs.Block.{Block}
+use Rattle.s66_line.specs.Blocks.{Block}
 use Rattle.s66_model.specs.Timing.{Point, done_at, points_of, writes_reg}
 use Rattle.s66_time.specs.TimedOrder.{TimedOrder}
 use Rattle.s66_why.specs.declared.reservation.Reservation.{Reservation}

@@ -3,7 +3,7 @@ use Rattle.std.specs.Prelude.{ℕ, ◌+◌, ◌-◌, ◌*◌, ◌/◌, if◌then
 use Rattle.std.specs.List.{range_with_len}
 use Rattle.s66_isa.specs.Lists.{greatest}
 use Rattle.s66_isa.specs.Table.{numbers}
-use Rattle.s66_line.specs.Block.{Block, instrs_of, text_of}
+use Rattle.s66_line.specs.Blocks.{Block, instrs_of, text_of}
 use Rattle.s66_time.specs.TimedOrder.{TimedOrder, point_at}
 use Rattle.s66_why.specs.declared.row.TheConstants.{NAME_ROOM}
 use Rattle.s66_why.specs.Chart.{cycles_of, has_filler, instruction_row, no_row}

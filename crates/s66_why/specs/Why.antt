@@ -7,7 +7,7 @@ use Rattle.s66_isa.specs.Lists.{after_blanks, weigh}
 use Rattle.s66_isa.specs.Table.{Reg, Write, same_reg, same_kind, has_reg, memory_pair}
 use Rattle.s66_isa.specs.declared.reg.Bank.{Bank}
 use Rattle.s66_isa.specs.declared.reg.Bank.TheVariants.{A, B, X}
-use Rattle.s66_line.specs.Block.{Block, text_of}
+use Rattle.s66_line.specs.Blocks.{Block, text_of}
 use Rattle.s66_model.specs.Timing.{Point, done_at, end_of, points_of, readers_wait, total}
 use Rattle.s66_time.specs.TimedOrder.{TimedOrder}
 use Rattle.s66_why.specs.TextChart.{in_places, text_width}

@@ -4,7 +4,7 @@
 ghost use Rattle.std.specs.Prelude.{[], ◌∷◌, ◌≡◌, ◌++◌, false, true, codes};
 ghost use Rattle.s66_isa.specs.Table.{instr};
 ghost use Rattle.s66_model.specs.Examples.{standard_problem, first_order, one_load, latest_writer, loads_then_store, third_order, two_readers, held_load, packing_gap, three_multiplies};
-ghost use Rattle.s66_line.specs.Block.{Block as BlockOf};
+ghost use Rattle.s66_line.specs.Blocks.{Block as BlockOf};
 ghost use Rattle.s66_why.specs.Chart.{chart_text};
 ghost use Rattle.s66_why.specs.Examples.{one_load_lines, packing_gap_lines};
 ghost use Rattle.s66_why.specs.Hazards.{hazards, hazards_text};

@@ -3,7 +3,7 @@
 
 ghost use Rattle.std.specs.Prelude.{◌≡◌, ◌≤◌, ◌++◌, OnOk, IfOk, flat_map, length, map, reverse};
 ghost use Rattle.s66_isa.specs.declared.limits.TheConstants.{BLOCK_LIMIT};
-ghost use Rattle.s66_line.specs.Block.{instrs_of};
+ghost use Rattle.s66_line.specs.Blocks.{instrs_of};
 ghost use Rattle.s66_why.specs.TextChart.{text_width};
 ghost use Rattle.s66_why.specs.Numbers.{AreOf, IsOf, StepsAreOf};
 ghost use Rattle.s66_why.specs.Why.{bank_name, register_name, register_text, cause_text, conflict_name, in_three, lost, on_right, path_line, path_lines, step_row, steps_line, stretch_line, stretch_text, stretches, text_after_number, text_at_end, time_row, why_text};

@@ -58,7 +58,7 @@ impl Prefix {
     ghost use Rattle.s66_model.specs.LegalOrder.{IsBeginning, is_remaining, is_ready, needs_met};
     ghost use Rattle.s66_model.specs.Dependence.{depends};
     ghost use Rattle.s66_isa.specs.Lists.{has};
-    ghost use Rattle.s66_moments.specs.Known.{is_number};
+    ghost use Rattle.s66_moments.specs.KnownFacts.{is_number};
     ghost use Rattle.s66_isa.specs.Members.{numbers_in};
     ghost use Rattle.s66_checker.specs.KeptPrefix.{AreTimed};
     ghost use Rattle.s66_checker.specs.Dominating.{is_beginning, is_same_set, is_earlier, dominates_by};

@@ -1,7 +1,7 @@
 //! The beam search (`beam_below`): from length to length, with at most so many beginnings of each, until orders are whole.
 
 ghost use Rattle.std.specs.Prelude.{◌≡◌, ◌<◌, IfOk, IfSome};
-ghost use Rattle.s66_line.specs.Block.{instrs_of};
+ghost use Rattle.s66_line.specs.Blocks.{instrs_of};
 ghost use Rattle.s66_model.specs.Timing.{total_of};
 
 use crate::beam::depth::{Beginning, next_depth};

@@ -6,7 +6,7 @@
 //! dominates is decided by what remains (`allowed.rt`), so that more prefixes are closed than by a comparison of all times.
 
 ghost use Rattle.std.specs.Prelude.{◌≡◌, ◌≤◌, IfOk};
-ghost use Rattle.s66_line.specs.Block.{instrs_of};
+ghost use Rattle.s66_line.specs.Blocks.{instrs_of};
 ghost use Rattle.s66_model.specs.Timing.{total_of};
 ghost use Rattle.s66_deep.specs.Branching.{IsNoSlower};
 

@@ -3,7 +3,7 @@
 
 ghost use Rattle.std.specs.Prelude.{◌≤◌, ◌<◌, ◌+◌, IsTrue, not, length};
 ghost use Rattle.s66_facts.specs.declared.limits.TheConstants.{FACT_LIMIT};
-ghost use Rattle.s66_facts.specs.Ground.{known_of};
+ghost use Rattle.s66_facts.specs.BlockGround.{known_of};
 
 use crate::facts::ground::Ground;
 use s66_facts::{FACT_LIMIT, Facts};

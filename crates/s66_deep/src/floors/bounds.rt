@@ -26,7 +26,7 @@ pub struct PathBounds<'a> {
 
 impl<'a> Model for PathBounds<'a> {
     ghost use Rattle.std.specs.Prelude.{ℕ, length};
-    ghost use Rattle.s66_line.specs.Block.{instrs_of};
+    ghost use Rattle.s66_line.specs.Blocks.{instrs_of};
     ghost use Rattle.s66_deep.specs.FollowingWords.{HasSmallWords, HasRanks};
 
     ghost Value = { ℕ };
@@ -38,7 +38,7 @@ impl<'a> Model for PathBounds<'a> {
 
 impl<'a> PathBounds<'a> {
     ghost use Rattle.std.specs.Prelude.{◌≡◌, ◌≤◌, length};
-    ghost use Rattle.s66_line.specs.Block.{instrs_of};
+    ghost use Rattle.s66_line.specs.Blocks.{instrs_of};
 
     /// Of a block under a profile, by what follows the stages of each number, n at place n - 1, in some network: in time quadratic in
     /// the block's length.

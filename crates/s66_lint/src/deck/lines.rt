@@ -77,7 +77,7 @@ impl Passed {
 impl<'a> Lines<'a> {
     ghost use Rattle.std.specs.Prelude.{◌≡◌, ◌≤◌, length, min, is_some, vec_len, IfOk};
     ghost use Rattle.s66_line.specs.Fields.{lines_of};
-    ghost use Rattle.s66_source.specs.Redefined.{redefined_in};
+    ghost use Rattle.s66_source.specs.Redefinitions.{redefined_in};
     ghost use Rattle.s66_source.specs.declared.limits.TheConstants.{SOURCE_LINES_LIMIT};
     ghost use Rattle.s66_lint.specs.Listing.{has_more};
     ghost use Rattle.s66_lint.specs.Marks.{alone_lines};

@@ -5,7 +5,7 @@ ghost use Rattle.s66_isa.specs.Lists.{weigh};
 ghost use Rattle.s66_model.specs.declared.rule.Rule.{Rule};
 ghost use Rattle.s66_model.specs.declared.rule.Rule.TheVariants.{NoneNamed};
 ghost use Rattle.s66_model.specs.Timing.{Problem};
-ghost use Rattle.s66_model.specs.Ledger.{Ledger, Event, Reply, Step, Run, worker, Open, Out, Graft, Offer, Back, Claimed, Taken, NotOut, Lower, NotLower, OtherBlock, opening};
+ghost use Rattle.s66_model.specs.LedgerRuns.{Ledger, Event, Reply, Step, Run, worker, Open, Out, Graft, Offer, Back, Claimed, Taken, NotOut, Lower, NotLower, OtherBlock, opening};
 ghost use Rattle.s66_model.specs.Accounts.{Claims, Grafts, Offers, GivesBack, brief, account_of, counted, no_account, Summary, summary_of, SeatRecord, Agrees, opened, after_event, after_reading};
 ghost use Rattle.s66_model.specs.Examples.{load_problem, multiply_problem};
 ghost use Rattle.s66_model.specs.LedgerExamples.{ledger_events, root_split};

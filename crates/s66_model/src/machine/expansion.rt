@@ -7,7 +7,7 @@ ghost use Rattle.s66_model.specs.declared.rule.Rule.TheVariants.{NoneNamed};
 ghost use Rattle.s66_model.specs.Timing.{Problem};
 ghost use Rattle.s66_model.specs.LegalOrder.{IsIncomplete};
 ghost use Rattle.s66_model.specs.Leaves.{Whole, Chain, Load, Parcels, floor_value};
-ghost use Rattle.s66_model.specs.Tree.{Tree, Alone, Parted, NoMore, Unsplit, splits};
+ghost use Rattle.s66_model.specs.Trees.{Tree, Alone, Parted, NoMore, Unsplit, splits};
 ghost use Rattle.s66_model.specs.Piece.{Terminal, Carries, Frontier, IsPiece};
 ghost use Rattle.s66_model.specs.Expansion.{IsExpansion, IsBestWhole, whole_orders};
 ghost use Rattle.s66_model.specs.Examples.{load_problem, multiply_problem, load_piece, one_split, child_omitted, every_order, load_orders};

@@ -1,7 +1,7 @@
 //! The machine of a search: which reply an event of its ledger may have, what its steps keep, and how it ends. Beside it stand
 //! expansions, and what several crates share of a ledger. Each law is a function that does nothing, whose contract says it. Examples
 //! are such functions too: each clause is one, under the standard profile if no other is named. Like the model, it has no code that
-//! schedules: `s66_ledger` has that of the ledger, `s66_node` that of expansions. Begin at `specs/Ledger.antt` and `ledger.rt`.
+//! schedules: `s66_ledger` has that of the ledger, `s66_node` that of expansions. Begin at `specs/LedgerRuns.antt` and `ledger.rt`.
 
 mod accounts;
 mod coverage;

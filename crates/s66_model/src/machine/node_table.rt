@@ -5,7 +5,7 @@ ghost use Rattle.s66_model.specs.declared.rule.Rule.{Rule};
 ghost use Rattle.s66_model.specs.declared.rule.Rule.TheVariants.{NoneNamed};
 ghost use Rattle.s66_model.specs.Timing.{Problem};
 ghost use Rattle.s66_model.specs.Answer.{Answer};
-ghost use Rattle.s66_model.specs.Ledger.{Ledger, Event, Reply, Run, opening, Open, Out, Cut};
+ghost use Rattle.s66_model.specs.LedgerRuns.{Ledger, Event, Reply, Run, opening, Open, Out, Cut};
 ghost use Rattle.s66_model.specs.Coverage.{Covers, IsFinished};
 ghost use Rattle.s66_model.specs.NodeTable.{IsTable};
 ghost use Rattle.s66_model.specs.Examples.{standard_problem, one_boolean, zero_register, load_problem, multiply_problem};

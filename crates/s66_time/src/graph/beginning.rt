@@ -2,7 +2,7 @@
 
 ghost use Rattle.std.specs.Prelude.{◌≤◌, ◌↔◌, IsTrue, length};
 ghost use Rattle.s66_model.specs.LegalOrder.{IsFront, IsBeginning};
-ghost use Rattle.s66_line.specs.Block.{instrs_of};
+ghost use Rattle.s66_line.specs.Blocks.{instrs_of};
 ghost use Rattle.s66_time.specs.Refusal.{IsLongestBeginning};
 
 use crate::graph::dependence::Dependences;

@@ -5,7 +5,7 @@ ghost use Rattle.std.specs.Prelude.{◌≡◌, ◌+◌, ◌-◌, ◌≤◌, ◌<
 ghost use Rattle.s66_isa.specs.Table.{Instr, instr_at};
 ghost use Rattle.s66_model.specs.Dependence.{depends, needs, all_needs};
 ghost use Rattle.s66_model.specs.LegalOrder.{ready};
-ghost use Rattle.s66_line.specs.Block.{instrs_of};
+ghost use Rattle.s66_line.specs.Blocks.{instrs_of};
 ghost use Rattle.s66_isa.specs.declared.limits.TheConstants.{BLOCK_LIMIT};
 ghost use Rattle.s66_isa.specs.Members.{numbers_in};
 ghost use Rattle.s66_time.specs.Effects.{AreEffects, AreEffectsOf};

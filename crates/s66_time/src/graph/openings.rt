@@ -69,7 +69,7 @@ impl Openings {
     ghost use Rattle.s66_isa.specs.Lists.{has};
     ghost use Rattle.s66_isa.specs.Table.{Instr};
     ghost use Rattle.s66_isa.specs.declared.limits.TheConstants.{BLOCK_LIMIT};
-    ghost use Rattle.s66_line.specs.Block.{instrs_of};
+    ghost use Rattle.s66_line.specs.Blocks.{instrs_of};
     ghost use Rattle.s66_model.specs.Dependence.{all_needs};
     ghost use Rattle.s66_model.specs.LegalOrder.{is_ready, ready, IsBeginning};
     ghost use Rattle.s66_isa.specs.Members.{numbers_in};

@@ -1,7 +1,7 @@
 //! A legal order as a type (`Order`): a value of it can be made only of a permutation that keeps all dependences.
 
 ghost use Rattle.std.specs.Prelude.{◌≡◌, ◌≤◌, length};
-ghost use Rattle.s66_line.specs.Block.{instrs_of};
+ghost use Rattle.s66_line.specs.Blocks.{instrs_of};
 ghost use Rattle.s66_isa.specs.declared.limits.TheConstants.{BLOCK_LIMIT};
 
 use crate::graph::beginning::beginning_length;
@@ -44,7 +44,7 @@ impl Order {
     ghost use Rattle.std.specs.Prelude.{ℕ, ◌≡◌, ◌≤◌, ◌<◌, ◌↔◌, IsTrue, IfOk, IfErr, length, get_or};
     ghost use Rattle.std.specs.Result.{is_ok};
     ghost use Rattle.s66_isa.specs.Table.{instr_at, numbers};
-    ghost use Rattle.s66_line.specs.Block.{instrs_of};
+    ghost use Rattle.s66_line.specs.Blocks.{instrs_of};
     ghost use Rattle.s66_isa.specs.declared.limits.TheConstants.{BLOCK_LIMIT};
     ghost use Rattle.s66_model.specs.LegalOrder.{IsLegal};
     ghost use Rattle.s66_model.specs.Meaning.{KeepsMeaning};

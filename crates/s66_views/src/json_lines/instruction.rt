@@ -1,7 +1,7 @@
 //! The object of an instruction: its text, what the table has of it, and on which it depends.
 
 ghost use Rattle.std.specs.Prelude.{◌≡◌, ◌≤◌, ◌++◌, OnOk, length};
-ghost use Rattle.s66_line.specs.Block.{instrs_of};
+ghost use Rattle.s66_line.specs.Blocks.{instrs_of};
 ghost use Rattle.s66_model.specs.Dependence.{needs};
 ghost use Rattle.s66_isa.specs.Members.{numbers_in};
 ghost use Rattle.s66_views.specs.Pieces.{instruction_text, instructions_text, needs_text, operands_text, source_text, work_text};

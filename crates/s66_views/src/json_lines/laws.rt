@@ -4,7 +4,7 @@ ghost use Rattle.std.specs.Prelude.{ℕ, List, ◌≡◌, ◌<◌, ◌^◌, Some
 ghost use Rattle.serde_json.specs.Data.{null};
 ghost use Rattle.serde_json.specs.Find.{get};
 ghost use Rattle.s66_isa.specs.Lists.{Among};
-ghost use Rattle.s66_line.specs.Block.{Block as BlockOf};
+ghost use Rattle.s66_line.specs.Blocks.{Block as BlockOf};
 ghost use Rattle.s66_time.specs.TimedOrder.{TimedOrder};
 ghost use Rattle.s66_views.specs.Json.{block_data, characters, found_data, list_of, num};
 ghost use Rattle.s66_views.specs.Labels.{bytes_in};

@@ -4,7 +4,7 @@
 ghost use Rattle.std.specs.Prelude.{ℕ, List, ◌≡◌, ◌<◌, ◌-◌, ◌^◌, false, true, codes, length, take};
 ghost use Rattle.s66_isa.specs.Lists.{Among, every};
 ghost use Rattle.s66_isa.specs.Table.{latency_of};
-ghost use Rattle.s66_line.specs.Block.{Block as BlockOf};
+ghost use Rattle.s66_line.specs.Blocks.{Block as BlockOf};
 ghost use Rattle.s66_model.specs.Timing.{Point as PointOf, points_of};
 ghost use Rattle.s66_time.specs.TimedOrder.{TimedOrder, point_at};
 ghost use Rattle.s66_views.specs.Escape.{escaped_byte, escaped, escaped_lines, is_harmless, is_harmless_or_newline, is_reference_or};

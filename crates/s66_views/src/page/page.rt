@@ -2,7 +2,7 @@
 
 ghost use Rattle.std.specs.Prelude.{◌≡◌, ◌<◌, ◌^◌, ◌++◌, OnOk, length};
 ghost use Rattle.s66_isa.specs.Lists.{tally, weigh};
-ghost use Rattle.s66_line.specs.Block.{instrs_of};
+ghost use Rattle.s66_line.specs.Blocks.{instrs_of};
 ghost use Rattle.s66_views.specs.FoundOrders.{AreOf};
 ghost use Rattle.s66_views.specs.Page.{as_found, as_written, entries, entry, index, is_best, page_head, page_text, page_title, profile_line, summaries, summary};
 ghost use Rattle.s66_views.specs.declared.page.summary.Summary.{Summary as SummaryOf};

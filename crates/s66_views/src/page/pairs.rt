@@ -2,7 +2,7 @@
 
 ghost use Rattle.std.specs.Prelude.{◌≡◌, ◌≤◌, ◌<◌, ◌+◌, ◌*◌, ◌^◌, ◌++◌, IfOk, OnOk, codes, length, slice_get};
 ghost use Rattle.s66_source.specs.declared.limits.TheConstants.{SOURCE_LINES_LIMIT};
-ghost use Rattle.s66_line.specs.Block.{instrs_of};
+ghost use Rattle.s66_line.specs.Blocks.{instrs_of};
 ghost use Rattle.s66_compare.specs.Rows.{AreOfBlocks, IsRowOf, counted};
 ghost use Rattle.s66_compare.specs.Verdict.{judged};
 ghost use Rattle.s66_views.specs.Page.{as_written, order_text};

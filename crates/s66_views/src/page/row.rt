@@ -1,7 +1,7 @@
 //! The row of an instruction: its number, its text, an arrow if it moved, and its bars.
 
 ghost use Rattle.std.specs.Prelude.{◌≡◌, ◌+◌, ◌<◌, ◌++◌, OnOk, flat_map, length, map, reverse};
-ghost use Rattle.s66_line.specs.Block.{bytes_of, instrs_of};
+ghost use Rattle.s66_line.specs.Blocks.{bytes_of, instrs_of};
 ghost use Rattle.s66_model.specs.Timing.{points_of};
 ghost use Rattle.s66_time.specs.TimedOrder.{point_at};
 ghost use Rattle.s66_why.specs.Why.{stretches_at};

@@ -1,6 +1,6 @@
 use Rattle.std.proofs.Common.{◌≡◌, ◌≤◌, ◌∙◌, IfSome, ap, arith, inl, inr, length, subst, sym}
 use Rattle.s66_isa.specs.declared.limits.TheConstants.{BLOCK_LIMIT}
-use Rattle.s66_line.specs.Block.{instrs_of}
+use Rattle.s66_line.specs.Blocks.{instrs_of}
 use Rattle.s66_time.specs.Ordered.{Ordered}
 use Rattle.s66_model.specs.Answer.{source_time}
 use Rattle.s66_model.specs.LegalOrder.{IsLegal}
@@ -10,7 +10,7 @@ use Rattle.s66_model.proofs.LegalOrders.{legal-order}
 use Rattle.s66_ledger.specs.Answers.{answer_of}
 use Rattle.s66_cert.specs.DocumentParts.{Parts}
 use Rattle.s66_answer.specs.declared.answers.Candidate.{Candidate}
-use Rattle.s66_model.specs.Tree.{splits}
+use Rattle.s66_model.specs.Trees.{splits}
 use Rattle.s66_cert.specs.DocumentParts.{tree_of_lines}
 use Rattle.s66_answer.specs.Answers.{IsEnough, problem_of}
 use Rattle.s66_answer.specs.Stored.{IsShownBy, claimed}

@@ -1,7 +1,7 @@
 use Rattle.std.proofs.Common.{ℕ, ◌≡◌, ◌≢◌, ◌+◌, ◌∙◌, true, false, sym, subst, ap, arith, inl, inr, refl}
 use Rattle.std.proofs.lemmas.Bool.{eq-eqb, ne_eqb}
 use Rattle.s66_isa.specs.Lists.{first_that, Among}
-use Rattle.s66_line.specs.Block.{instrs_of}
+use Rattle.s66_line.specs.Blocks.{instrs_of}
 use Rattle.s66_model.specs.Timing.{row_at}
 use Rattle.s66_model.specs.LegalOrder.{is_remaining}
 use Rattle.s66_model.specs.Leaves.{head, chain}

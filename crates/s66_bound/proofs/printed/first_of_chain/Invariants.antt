@@ -1,6 +1,6 @@
 use Rattle.std.proofs.Common.{ℕ, ◌≡◌, true, length}
 use Rattle.s66_isa.specs.Lists.{first_that, Among}
-use Rattle.s66_line.specs.Block.{instrs_of}
+use Rattle.s66_line.specs.Blocks.{instrs_of}
 use Rattle.s66_model.specs.LegalOrder.{is_remaining, remaining}
 use Rattle.s66_isa.specs.Members.{numbers_in}
 use Rattle.s66_bound.proofs.Heads.{heads_chain}

@@ -1,7 +1,7 @@
 use Rattle.std.proofs.Common.{drop}
 use Rattle.std.specs.Prelude.{◌↔◌}
 use Rattle.s66_isa.specs.declared.limits.TheConstants.{BLOCK_LIMIT}
-use Rattle.s66_cert.specs.Document.{AreIn}
+use Rattle.s66_cert.specs.Documents.{AreIn}
 use Rattle.s66_cert.proofs.ranges.are_all_numbers.Given as goal
 
 abbrev pub invariant-loop-n : goal.invariant-loop-n

@@ -2,7 +2,7 @@ use Rattle.std.proofs.Common.{◌+◌, ◌*◌, ◌≡◌, ◌≤◌, true, map,
 use Rattle.s66_isa.specs.Lists.{every, weigh}
 use Rattle.s66_model.specs.LegalOrder.{is_remaining}
 use Rattle.s66_moments.specs.FactLines.{Use}
-use Rattle.s66_moments.specs.Known.{use_of}
+use Rattle.s66_moments.specs.KnownFacts.{use_of}
 use Rattle.s66_checker.proofs.loaded.amounts.Given as goal
 
 abbrev pub invariant-loop-n : goal.invariant-loop-n

@@ -1,5 +1,5 @@
 use Rattle.std.proofs.Common.{◌∙◌, ◌+◌, [], length, refl, sym, ap, arith, inl, inr, true, false, List}
-use Rattle.s66_model.specs.Tree.{Vertex}
+use Rattle.s66_model.specs.Trees.{Vertex}
 use Rattle.s66_model.specs.DominatedLeaves.{Ending}
 use Rattle.s66_moments.specs.declared.fact_line.FactStep.{FactStep}
 use Rattle.s66_model.specs.Lines.{vertex_of}

@@ -1,6 +1,6 @@
 use Rattle.std.proofs.Common.{◌≡◌, ◌+◌, ◌-◌, not, length}
 use Rattle.s66_isa.specs.Lists.{first_that, has, rising}
-use Rattle.s66_line.specs.Block.{instrs_of}
+use Rattle.s66_line.specs.Blocks.{instrs_of}
 use Rattle.s66_compare.specs.Pairing.{first_left}
 use Rattle.s66_compare.proofs.pairing.first_left.Given as goal
 

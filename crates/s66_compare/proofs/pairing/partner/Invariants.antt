@@ -1,6 +1,6 @@
 use Rattle.std.proofs.Common.{◌≡◌, ◌+◌, ◌-◌, length}
 use Rattle.s66_isa.specs.Lists.{first_that, rising}
-use Rattle.s66_line.specs.Block.{instrs_of}
+use Rattle.s66_line.specs.Blocks.{instrs_of}
 use Rattle.s66_compare.specs.Pairing.{is_open, partner}
 use Rattle.s66_compare.proofs.pairing.partner.Given as goal
 

@@ -1,7 +1,7 @@
 use Rattle.std.proofs.Common.{ℕ, ◌-◌, ◌∙◌, ◌||◌, List, [], ap, sym, arith, take, get_or, length, eqb}
 use Rattle.std.proofs.lemmas.List.{take_more}
 use Rattle.s66_isa.specs.Lists.{has}
-use Rattle.s66_line.specs.Block.{instrs_of}
+use Rattle.s66_line.specs.Blocks.{instrs_of}
 use Rattle.s66_model.proofs.LegalOrders.{has-push}
 use Rattle.s66_time.proofs.Opened.{count-needs}
 use Rattle.s66_compare.specs.Verdict.{is_missing, kept_verdict}

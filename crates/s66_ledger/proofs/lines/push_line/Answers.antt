@@ -2,7 +2,7 @@ use Rattle.std.proofs.Common.{◌≡◌, ◌++◌, ◌∷◌, [], ℕ, List, ap,
 use Rattle.s66_isa.specs.Members.{numbers_in}
 use Rattle.s66_model.specs.DominatedLeaves.{Ending}
 use Rattle.s66_model.specs.Later.{children, coming, later}
-use Rattle.s66_model.specs.Tree.{Vertex, AtSplit}
+use Rattle.s66_model.specs.Trees.{Vertex, AtSplit}
 use Rattle.s66_node.specs.declared.node.Node.{Node}
 use Rattle.s66_node.specs.Walked.{Walked}
 use Rattle.s66_ledger.specs.Nodes.{no_stored}

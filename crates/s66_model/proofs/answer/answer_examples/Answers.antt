@@ -4,7 +4,7 @@ use Rattle.s66_isa.specs.Table.{row}
 use Rattle.s66_model.specs.Timing.{issue_of, start_of, point}
 use Rattle.s66_model.specs.Dependence.{conflict}
 use Rattle.s66_model.specs.Leaves.{Leaf, Whole, Chain, value}
-use Rattle.s66_model.specs.Tree.{Tree, Alone, TreeHolds, splits, tree_values}
+use Rattle.s66_model.specs.Trees.{Tree, Alone, TreeHolds, splits, tree_values}
 use Rattle.s66_model.specs.declared.rule.Rule.TheVariants.{NoneNamed}
 use Rattle.s66_model.specs.DominatedLeaves.{Bounding, tree_bounding}
 use Rattle.s66_model.specs.Answer.{MayEnd, ending_values, IsAnswer}

@@ -5,7 +5,7 @@ use Rattle.s66_model.specs.Dependence.{conflict}
 use Rattle.s66_model.specs.LegalOrder.{IsLegal}
 use Rattle.s66_model.specs.BestAndBound.{IsBound}
 use Rattle.s66_model.specs.Leaves.{Chain}
-use Rattle.s66_model.specs.Tree.{Alone}
+use Rattle.s66_model.specs.Trees.{Alone}
 use Rattle.s66_model.specs.Examples.{one_load, load_problem}
 use Rattle.s66_model.proofs.LegalOrders.{order-legal}
 use Rattle.s66_model.proofs.Remaining.{legal-parts}

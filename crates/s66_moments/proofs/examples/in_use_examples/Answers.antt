@@ -8,7 +8,7 @@ use Rattle.s66_model.specs.Examples.{standard_problem}
 use Rattle.s66_moments.specs.declared.moment.Stage.TheVariants.{Issue, Start}
 use Rattle.s66_moments.specs.Moments.{soonest}
 use Rattle.s66_moments.specs.InUse.{FindsNoLater, FindsInUse}
-use Rattle.s66_moments.specs.Known.{Known, known_first, issue_at_least, start_at_least}
+use Rattle.s66_moments.specs.KnownFacts.{Known, known_first, issue_at_least, start_at_least}
 use Rattle.s66_moments.specs.Examples.{waits_for_the_unit, waits_for_x1, waits_for_two_parcels, product_and_booleans}
 use Rattle.s66_model.proofs.LegalOrders.{order-legal}
 use Rattle.s66_model.proofs.Remaining.{remaining-parts}

@@ -5,7 +5,7 @@ use Rattle.s66_model.specs.Timing.{issue_of, start_of, point}
 use Rattle.s66_model.specs.declared.rule.Rule.TheVariants.{NoneNamed}
 use Rattle.s66_model.specs.Dominance.{DominatesClamped}
 use Rattle.s66_model.specs.Examples.{standard_problem, three_increments}
-use Rattle.s66_model.specs.Tree.{Alone}
+use Rattle.s66_model.specs.Trees.{Alone}
 use Rattle.s66_moments.specs.declared.moment.Stage.TheVariants.{Issue, Start, Done, Free}
 use Rattle.s66_moments.specs.declared.moment.Moment.TheVariants.{At, End}
 use Rattle.s66_moments.specs.LineTrees.{AtLines, ShowsByLines}

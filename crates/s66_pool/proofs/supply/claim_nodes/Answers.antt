@@ -1,5 +1,5 @@
 use Rattle.std.proofs.Common.{◌++◌, ◌∷◌, [], true, ap, arith, ◌∙◌, subst, sym, List, Option, length, length-append}
-use Rattle.s66_model.specs.Ledger.{Claim, Claimed}
+use Rattle.s66_model.specs.LedgerRuns.{Claim, Claimed}
 use Rattle.s66_model.specs.Tickets.{TicketOf}
 use Rattle.s66_ledger.specs.Ledgers.{IsEvent}
 use Rattle.s66_ledger.specs.ClaimedNodes.{claimed_node}

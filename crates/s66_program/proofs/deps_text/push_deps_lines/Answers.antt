@@ -1,5 +1,5 @@
 use Rattle.std.proofs.Common.{ℕ, List, ◌∙◌, sym, ap, length}
-use Rattle.s66_line.specs.Block.{instrs_of}
+use Rattle.s66_line.specs.Blocks.{instrs_of}
 use Rattle.s66_program.proofs.deps_text.push_deps_lines.Goals as goal
 use Rattle.s66_time.proofs.Opened.{count-needs}
 

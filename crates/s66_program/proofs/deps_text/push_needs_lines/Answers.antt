@@ -1,6 +1,6 @@
 use Rattle.std.proofs.Common.{ℕ, List, ◌≡◌, ◌+◌, ◌-◌, ◌++◌, [], ◌∙◌, sym, ap, arith, length, get_or, append_assoc}
 use Rattle.s66_isa.specs.Lists.{rising}
-use Rattle.s66_line.specs.Block.{instrs_of}
+use Rattle.s66_line.specs.Blocks.{instrs_of}
 use Rattle.s66_model.specs.Dependence.{needs}
 use Rattle.s66_isa.specs.Members.{numbers_in}
 use Rattle.s66_time.proofs.Readiness.{needs-at}

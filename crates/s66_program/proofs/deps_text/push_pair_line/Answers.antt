@@ -1,7 +1,7 @@
 use Rattle.std.proofs.Common.{rules, OnOk, ◌≡◌, ◌++◌, ◌∙◌, ap, codes}
 use Rattle.std.proofs.lemmas.Result.{IfOk-equal}
 use Rattle.s66_isa.specs.Table.{instr_at}
-use Rattle.s66_line.specs.Block.{instrs_of}
+use Rattle.s66_line.specs.Blocks.{instrs_of}
 use Rattle.s66_why.specs.Hazards.{hazards, hazards_text}
 use Rattle.s66_program.specs.DepsText.{named}
 use Rattle.s66_program.proofs.Pieces.{regrouped}

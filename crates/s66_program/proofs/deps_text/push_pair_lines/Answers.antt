@@ -1,6 +1,6 @@
 use Rattle.std.proofs.Common.{ℕ, List, ◌+◌, ◌-◌, ◌++◌, [], ◌∙◌, ap, append_assoc, arith, flat_map, get_or, length, sym}
 use Rattle.s66_isa.specs.Lists.{rising}
-use Rattle.s66_line.specs.Block.{instrs_of}
+use Rattle.s66_line.specs.Blocks.{instrs_of}
 use Rattle.s66_model.specs.Dependence.{needs}
 use Rattle.s66_time.proofs.Readiness.{needs-at}
 use Rattle.s66_program.specs.DepsText.{pair_line}

@@ -2,7 +2,7 @@ use Rattle.std.proofs.Common.{ℕ, List, ◌∙◌, ◌++◌, ap, append_assoc, 
 use Rattle.s66_isa.specs.Lists.{Among}
 use Rattle.s66_isa.specs.Table.{numbers}
 use Rattle.s66_isa.proofs.Lists.{among-rising, filter-among}
-use Rattle.s66_line.specs.Block.{Block, instrs_of}
+use Rattle.s66_line.specs.Blocks.{Block, instrs_of}
 use Rattle.s66_model.specs.Dependence.{depends, needs}
 use Rattle.s66_isa.specs.Members.{numbers_in}
 use Rattle.s66_why.specs.Numbers.{IsOf}

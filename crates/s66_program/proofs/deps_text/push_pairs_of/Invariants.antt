@@ -1,7 +1,7 @@
 use Rattle.std.proofs.Common.{ℕ, ◌≡◌, ◌++◌, flat_map, length}
 use Rattle.s66_isa.specs.Members.{numbers_in}
 use Rattle.s66_isa.specs.Lists.{Among}
-use Rattle.s66_line.specs.Block.{instrs_of}
+use Rattle.s66_line.specs.Blocks.{instrs_of}
 use Rattle.s66_model.specs.Dependence.{needs}
 use Rattle.s66_why.specs.Numbers.{IsOf}
 use Rattle.s66_program.specs.DepsText.{pair_line}

@@ -1,6 +1,6 @@
 use Rattle.std.proofs.Common.{◌≡◌, ℕ, Bool, List, Ok, ap, subst, sym}
 use Rattle.std.specs.Global.{Vec}
-use Rattle.s66_line.specs.Block.{Block}
+use Rattle.s66_line.specs.Blocks.{Block}
 use Rattle.s66_lint.specs.Guarded.{IsGuard}
 use Rattle.s66_source.specs.Source.{blocks_of, classed_lines, source_of}
 use Rattle.s66_command.specs.declared.command.Asked.{Asked}

@@ -1,6 +1,6 @@
 use Rattle.std.proofs.Common.{rules, ℕ, List, ◌≡◌, ◌++◌, OnOk, subst}
 use Rattle.serde_json.specs.Data.{null}
-use Rattle.s66_line.specs.Block.{instrs_of}
+use Rattle.s66_line.specs.Blocks.{instrs_of}
 use Rattle.s66_time.specs.TimedOrder.{TimedOrder}
 use Rattle.s66_program.specs.Entries.{entry_at}
 use Rattle.s66_views.specs.Json.{json_line}

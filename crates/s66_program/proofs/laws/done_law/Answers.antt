@@ -3,7 +3,7 @@ use Rattle.s66_isa.specs.Lists.{Among}
 use Rattle.s66_isa.proofs.Lists.{every-each}
 use Rattle.s66_isa.specs.declared.limits.TheConstants.{BLOCK_LIMIT}
 use Rattle.s66_cert.specs.declared.limits.TheConstants.{SPLIT_LIMIT}
-use Rattle.s66_cert.specs.Document.{Document, AreDocumentsWithin, IsDocumentWithin}
+use Rattle.s66_cert.specs.Documents.{Document, AreDocumentsWithin, IsDocumentWithin}
 use Rattle.s66_checker.specs.declared.verdict.Verdict.{Verdict}
 use Rattle.s66_checker.specs.declared.verdict.Verdict.TheVariants.{Yes, No}
 use Rattle.s66_checker.specs.TrueClaims.{IsTrueClaim}

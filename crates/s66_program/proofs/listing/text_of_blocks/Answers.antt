@@ -1,7 +1,7 @@
 use Rattle.std.proofs.Common.{List, ◌≡◌, ◌+◌, ◌++◌, ◌∙◌, ◌∷◌, ap, append_assoc, arith, drop, sym}
 use Rattle.std.proofs.lemmas.List.{drop_more}
 use Rattle.s66_isa.specs.declared.profile.Profile.{Profile}
-use Rattle.s66_line.specs.Block.{Block}
+use Rattle.s66_line.specs.Blocks.{Block}
 use Rattle.s66_program.specs.Listing.{lines_of_blocks}
 use Rattle.s66_program.proofs.listing.text_of_blocks.Goals as goal
 

@@ -1,5 +1,5 @@
 use Rattle.std.proofs.Common.{◌≡◌, ◌∙◌, ◌++◌, List, None, Option, ap, ap₂, length, min, refl, replicate, subst, sym}
-use Rattle.s66_line.specs.Block.{Block}
+use Rattle.s66_line.specs.Blocks.{Block}
 use Rattle.s66_source.specs.Printed.{Placed}
 use Rattle.s66_source.specs.Replaced.{AreGiven, printed_in}
 use Rattle.s66_source.specs.Source.{blocks_of, classed_lines}

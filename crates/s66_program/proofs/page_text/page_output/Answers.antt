@@ -1,6 +1,6 @@
 use Rattle.std.proofs.Common.{ℕ, List, [], ◌∷◌, Option, None, Some, Ok, ◌≡◌, ◌≤◌, ◌<◌, ◌^◌, ◌-◌, ◌++◌, ◌∙◌, ap, ap₂, arith, drop, length, refl, subst, sym, take}
 use Rattle.s66_isa.specs.declared.profile.Profile.{Profile}
-use Rattle.s66_line.specs.Block.{Block}
+use Rattle.s66_line.specs.Blocks.{Block}
 use Rattle.s66_program.specs.Entries.{entries_of}
 use Rattle.s66_views.specs.FoundOrders.{AreOf, FoundOrder}
 use Rattle.s66_views.specs.Page.{page_text}

@@ -1,8 +1,8 @@
 use Rattle.std.proofs.Common.{ℕ, ◌++◌, ◌∙◌, List, ap, append_assoc}
 use Rattle.std.proofs.lemmas.Result.{IfOk-equal}
 use Rattle.s66_model.specs.Timing.{Problem}
-use Rattle.s66_moments.specs.Known.{arcs_of}
-use Rattle.s66_facts.specs.Ground.{known_of as known_in}
+use Rattle.s66_moments.specs.KnownFacts.{arcs_of}
+use Rattle.s66_facts.specs.BlockGround.{known_of as known_in}
 use Rattle.s66_cert.specs.DocumentParts.{document_of}
 use Rattle.s66_reasons.specs.FactWords.{late_words, pair_words}
 use Rattle.s66_reasons.proofs.facts.push_pair.Goals as goal

@@ -2,13 +2,13 @@ use Rattle.std.proofs.Common.{◌≡◌, [], refl, inl, subst, sym, arith}
 use Rattle.std.proofs.lemmas.Bool.{leb-true}
 use Rattle.s66_isa.specs.Lists.{Among}
 use Rattle.s66_model.specs.Leaves.{value}
-use Rattle.s66_model.specs.Tree.{Tree, AtTerminal}
+use Rattle.s66_model.specs.Trees.{Tree, AtTerminal}
 use Rattle.s66_model.specs.DominatedLeaves.{Ending, Bounding, Factual}
 use Rattle.s66_model.specs.FactLeaves.{Next, Turned, LoadFrom}
 use Rattle.s66_model.proofs.Remaining.{legal-parts, remaining-parts}
 use Rattle.s66_model.proofs.Trees.{leaf-sound}
-use Rattle.s66_moments.specs.Known.{next_value}
-use Rattle.s66_cert.specs.Document.{tree_placed}
+use Rattle.s66_moments.specs.KnownFacts.{next_value}
+use Rattle.s66_cert.specs.Documents.{tree_placed}
 use Rattle.s66_checker.specs.Verdict.{known_of, problem_of}
 use Rattle.s66_checker.proofs.GrantedClaims.{granted}
 use Rattle.s66_reasons.specs.Reasons.{leaf_rows}

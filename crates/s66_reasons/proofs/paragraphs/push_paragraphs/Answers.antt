@@ -2,10 +2,10 @@ use Rattle.std.proofs.Common.{rules, ◌^◌, ℕ, ◌<◌, ◌+◌, ◌++◌, �
 use Rattle.std.proofs.lemmas.List.{append-nil, drop_all}
 use Rattle.std.proofs.lemmas.Option.{slice_get_within}
 use Rattle.s66_isa.specs.Lists.{Among}
-use Rattle.s66_model.specs.Tree.{Vertex}
+use Rattle.s66_model.specs.Trees.{Vertex}
 use Rattle.s66_model.specs.DominatedLeaves.{Ending}
 use Rattle.s66_model.specs.Lines.{vertex_of}
-use Rattle.s66_cert.specs.Document.{tree_placed}
+use Rattle.s66_cert.specs.Documents.{tree_placed}
 use Rattle.s66_cert.specs.DocumentParts.{document_of}
 use Rattle.s66_reasons.specs.Reasons.{line_text, lines_text}
 use Rattle.s66_reasons.proofs.Claimed.{all-found, few-lines_placed}

@@ -1,5 +1,5 @@
 use Rattle.std.proofs.Common.{◌≡◌, ◌++◌, ◌≤◌, ◌-◌, [], drop, length}
-use Rattle.s66_cert.specs.Document.{tree_placed}
+use Rattle.s66_cert.specs.Documents.{tree_placed}
 use Rattle.s66_cert.specs.DocumentParts.{document_of}
 use Rattle.s66_checker.specs.Verdict.{problem_of}
 use Rattle.s66_reasons.specs.Reasons.{lines_text}

@@ -1,6 +1,6 @@
 use Rattle.std.proofs.Common.{ℕ, ◌++◌, ◌∙◌, [], List, ap, append_assoc}
 use Rattle.std.proofs.lemmas.Result.{IfOk-equal}
-use Rattle.s66_cert.specs.Document.{tree_placed}
+use Rattle.s66_cert.specs.Documents.{tree_placed}
 use Rattle.s66_cert.specs.DocumentParts.{document_of}
 use Rattle.s66_moments.specs.Suppositions.{standing_first}
 use Rattle.s66_checker.specs.Verdict.{facts_of, problem_of}

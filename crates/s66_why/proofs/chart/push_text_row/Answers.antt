@@ -1,7 +1,7 @@
 use Rattle.std.proofs.Common.{ℕ, List, ◌≡◌, ◌++◌, ◌∙◌, ap, append_assoc, get_or, sym}
 use Rattle.std.proofs.lemmas.Result.{IfOk-equal}
 use Rattle.s66_time.specs.Ordered.{Ordered}
-use Rattle.s66_line.specs.Block.{text_of}
+use Rattle.s66_line.specs.Blocks.{text_of}
 use Rattle.s66_time.specs.TimedOrder.{point_at}
 use Rattle.s66_time.proofs.Positions.{number-at}
 use Rattle.s66_why.specs.Chart.{instruction_row}

@@ -1,5 +1,5 @@
 use Rattle.std.proofs.Common.{◌≡◌, ◌∙◌, ap, subst, sym, true, true≢false}
-use Rattle.s66_line.specs.Block.{instrs_of}
+use Rattle.s66_line.specs.Blocks.{instrs_of}
 use Rattle.s66_model.specs.LegalOrder.{IsLegal}
 use Rattle.s66_compare.specs.Pairing.{paired}
 use Rattle.s66_compare.specs.Verdict.{Judged, is_kept, verdict_of}

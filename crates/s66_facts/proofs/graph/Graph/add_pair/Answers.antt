@@ -4,7 +4,7 @@ use Rattle.s66_isa.specs.Lists.{has}
 use Rattle.s66_isa.specs.Members.{numbers_in, no_set}
 use Rattle.s66_facts.specs.Marked.{before_in}
 use Rattle.s66_facts.specs.Near.{AreNear}
-use Rattle.s66_facts.specs.Ground.{Ground}
+use Rattle.s66_facts.specs.BlockGround.{Ground}
 use Rattle.s66_facts.proofs.PairTaken.{pair-taken}
 use Rattle.s66_facts.proofs.graph.Graph.add_pair.Goals as goal
 

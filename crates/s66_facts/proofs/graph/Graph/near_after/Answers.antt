@@ -3,7 +3,7 @@ use Rattle.s66_moments.specs.Facts.{IsNumber}
 use Rattle.s66_isa.specs.Members.{no_set}
 use Rattle.s66_facts.specs.Marked.{before_in}
 use Rattle.s66_facts.specs.Near.{IsNear}
-use Rattle.s66_facts.specs.Ground.{Ground}
+use Rattle.s66_facts.specs.BlockGround.{Ground}
 use Rattle.s66_facts.proofs.NearEach.{turned-near}
 use Rattle.s66_facts.proofs.graph.Graph.near_after.Goals as goal
 

@@ -3,10 +3,10 @@ use Rattle.s66_isa.specs.declared.instr.Instr.{Instr}
 use Rattle.s66_isa.specs.declared.profile.Profile.{Profile}
 use Rattle.s66_model.specs.Timing.{Problem}
 use Rattle.s66_model.specs.DominatedLeaves.{Ending}
-use Rattle.s66_model.specs.Tree.{Vertex, flat}
+use Rattle.s66_model.specs.Trees.{Vertex, flat}
 use Rattle.s66_model.specs.Later.{later}
 use Rattle.s66_model.specs.NodeTree.{node_tree}
-use Rattle.s66_line.specs.Block.{instrs_of}
+use Rattle.s66_line.specs.Blocks.{instrs_of}
 use Rattle.s66_node.specs.Walked.{Walked}
 use Rattle.s66_ledger.specs.Answers.{AnswerOf, answer_of}
 use Rattle.s66_ledger.specs.AnswerLines.{AreOneTree, StandsAt, lines_from, lines_left}

@@ -1,5 +1,5 @@
 use Rattle.std.proofs.Common.{◌≡◌, ◌++◌, true, length}
-use Rattle.s66_model.specs.Tree.{flat}
+use Rattle.s66_model.specs.Trees.{flat}
 use Rattle.s66_ledger.specs.Answers.{answer_of}
 use Rattle.s66_ledger.specs.AnswerLines.{StandsAt, lines_left}
 use Rattle.s66_ledger.proofs.answer.Answer.tree.Given as goal

@@ -1,6 +1,6 @@
 use Rattle.std.proofs.Common.{◌≡◌, subst, ap, arith}
 use Rattle.s66_model.specs.Coverage.{Covers}
-use Rattle.s66_model.specs.Ledger.{Grant, Granted, allowance}
+use Rattle.s66_model.specs.LedgerRuns.{Grant, Granted, allowance}
 use Rattle.s66_model.proofs.Histories.{reached-covers}
 use Rattle.s66_ledger.specs.Ledgers.{LedgerOf}
 use Rattle.s66_ledger.proofs.Leading.{event-leads}

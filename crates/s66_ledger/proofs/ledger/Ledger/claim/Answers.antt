@@ -1,5 +1,5 @@
 use Rattle.std.proofs.Common.{refl, ap, subst}
-use Rattle.s66_model.specs.Ledger.{Claim, Claimed}
+use Rattle.s66_model.specs.LedgerRuns.{Claim, Claimed}
 use Rattle.s66_ledger.specs.ClaimedNodes.{claimed_node}
 use Rattle.s66_ledger.specs.Ledgers.{LedgerOf, IsEvent, with_history}
 use Rattle.s66_ledger.proofs.Recording.{recorded-alone, event-alone}

@@ -1,6 +1,6 @@
 use Rattle.std.proofs.Common.{ℕ, ◌∙◌, ◌-◌, true, ◌≡◌, None, refl, ap, sym, subst, length, drop, arith, length-append}
-use Rattle.s66_model.specs.Tree.{flat}
-use Rattle.s66_model.specs.Ledger.{Graft, Reply, Taken}
+use Rattle.s66_model.specs.Trees.{flat}
+use Rattle.s66_model.specs.LedgerRuns.{Graft, Reply, Taken}
 use Rattle.s66_model.specs.Recorded.{IsOwnPiece}
 use Rattle.s66_node.specs.Pieces.{PieceOf}
 use Rattle.s66_ledger.specs.declared.reply.GraftError.{GraftError}

@@ -1,6 +1,6 @@
 use Rattle.std.proofs.Common.{◌≡◌, ◌∙◌, refl, ap, subst, arith}
 use Rattle.s66_time.specs.Ordered.{Ordered}
-use Rattle.s66_model.specs.Ledger.{Event}
+use Rattle.s66_model.specs.LedgerRuns.{Event}
 use Rattle.s66_model.specs.Recorded.{IsOwn, IsOfferOf}
 use Rattle.s66_ledger.specs.Replies.{offered_reply}
 use Rattle.s66_ledger.specs.Ledgers.{LedgerOf, IsEvent, with_history}

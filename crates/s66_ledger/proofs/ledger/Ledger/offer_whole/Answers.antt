@@ -1,6 +1,6 @@
 use Rattle.std.proofs.Common.{◌∙◌, ap, sym, subst}
 use Rattle.s66_model.specs.LegalOrder.{IsLegal}
-use Rattle.s66_model.specs.Ledger.{node_at}
+use Rattle.s66_model.specs.LedgerRuns.{node_at}
 use Rattle.s66_ledger.specs.Ledgers.{LedgerOf}
 use Rattle.s66_ledger.proofs.WholeOffers.{whole-legal, timed-now}
 use Rattle.s66_ledger.proofs.ledger.Ledger.offer_whole.Goals as goal

@@ -1,7 +1,7 @@
 use Rattle.std.proofs.Common.{◌∙◌, Option, subst, sym, ap}
 use Rattle.s66_model.specs.LegalOrder.{IsBeginning}
 use Rattle.s66_model.specs.Leaves.{floor_value}
-use Rattle.s66_model.specs.Ledger.{Claim, Claimed, Back, Returned, best_time, node_at}
+use Rattle.s66_model.specs.LedgerRuns.{Claim, Claimed, Back, Returned, best_time, node_at}
 use Rattle.s66_model.specs.Tickets.{TicketOf}
 use Rattle.s66_ledger.specs.Ledgers.{LedgerOf, IsEvent}
 use Rattle.s66_ledger.specs.ClaimedNodes.{claimed_node, IsTicketOf, IsLeastOpen}

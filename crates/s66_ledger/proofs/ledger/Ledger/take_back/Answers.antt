@@ -1,5 +1,5 @@
 use Rattle.std.proofs.Common.{◌+◌, ◌∙◌, arith, ap, length, subst}
-use Rattle.s66_model.specs.Ledger.{Retire, Retired}
+use Rattle.s66_model.specs.LedgerRuns.{Retire, Retired}
 use Rattle.s66_ledger.specs.Finishing.{NoneOut}
 use Rattle.s66_ledger.specs.Ledgers.{LedgerOf}
 use Rattle.s66_ledger.proofs.Leading.{leads-on, event-leads}

@@ -1,6 +1,6 @@
 use Rattle.std.proofs.Common.{◌≤◌, subst, sym}
 use Rattle.s66_model.specs.Timing.{Problem}
-use Rattle.s66_model.specs.Ledger.{best_time, allowance}
+use Rattle.s66_model.specs.LedgerRuns.{best_time, allowance}
 use Rattle.s66_node.specs.Pieces.{tree_of, IsBestTimed}
 use Rattle.s66_ledger.specs.PieceSplits.{piece_splits}
 use Rattle.s66_ledger.specs.Finishing.{IsWithinRound, IsTaken}

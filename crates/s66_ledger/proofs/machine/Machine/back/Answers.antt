@@ -1,5 +1,5 @@
 use Rattle.std.proofs.Common.{true≢false, ◌∙◌, ap, sym, subst}
-use Rattle.s66_model.specs.Ledger as model
+use Rattle.s66_model.specs.LedgerRuns as model
 use Rattle.s66_node.specs.declared.node.State.TheVariants as state
 use Rattle.s66_ledger.specs.Nodes.{made_lines}
 use Rattle.s66_ledger.specs.LedgerMachine.{MachineOf, IsMove, IsKeptMachine, machine_of}

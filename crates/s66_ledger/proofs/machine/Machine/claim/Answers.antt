@@ -1,7 +1,7 @@
 use Rattle.std.proofs.Common.{ℕ, true, List, Some, None, ◌≡◌, ◌≤◌, ◌∙◌, [], arith, length, ap, sym, subst, get_or, refl}
 use Rattle.s66_isa.specs.declared.limits.TheConstants.{BLOCK_LIMIT}
 use Rattle.s66_model.specs.Leaves.{floor_value}
-use Rattle.s66_model.specs.Ledger as model
+use Rattle.s66_model.specs.LedgerRuns as model
 use Rattle.s66_node.specs.declared.node.Node.{Node}
 use Rattle.s66_node.specs.declared.node.State.TheVariants as state
 use Rattle.s66_ledger.specs.Nodes.{prefixes, made_lines, no_stored, stored_at}

@@ -1,6 +1,6 @@
 use Rattle.std.proofs.Common.{◌≡◌, ◌<◌, ◌∙◌, [], arith, ap, sym, length, get_or}
 use Rattle.s66_model.specs.Leaves.{floor_value}
-use Rattle.s66_model.specs.Ledger as model
+use Rattle.s66_model.specs.LedgerRuns as model
 use Rattle.s66_ledger.specs.LedgerMachine.{MachineOf}
 use Rattle.s66_ledger.proofs.Stored.{stored_of}
 use Rattle.s66_node.specs.Nodes.{has_floor}

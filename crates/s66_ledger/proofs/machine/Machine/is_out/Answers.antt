@@ -1,5 +1,5 @@
 use Rattle.std.proofs.Common.{◌↔◌, Bool, true, false, true≢false, IsTrue, refl, sym, subst}
-use Rattle.s66_model.specs.Ledger.{IsOut}
+use Rattle.s66_model.specs.LedgerRuns.{IsOut}
 use Rattle.s66_ledger.specs.LedgerMachine.{MachineOf}
 use Rattle.s66_ledger.proofs.Stored.{stored_of}
 use Rattle.s66_ledger.proofs.Events.{is-out, not-out}

@@ -1,6 +1,6 @@
 use Rattle.std.proofs.Common.{rules, inl, inr, ◌≢◌, ◌<◌, ◌∙◌, [], arith, length, get_or, true≢false, ap, sym, subst}
 use Rattle.s66_model.specs.LegalOrder.{IsBeginning}
-use Rattle.s66_model.specs.Ledger as model
+use Rattle.s66_model.specs.LedgerRuns as model
 use Rattle.s66_ledger.specs.Nodes.{prefixes}
 use Rattle.s66_ledger.specs.LedgerMachine.{MachineOf}
 use Rattle.s66_ledger.proofs.Stored.{stored_of}

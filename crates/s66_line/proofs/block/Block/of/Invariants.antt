@@ -2,7 +2,7 @@
 use Rattle.std.proofs.Common.{◌≡◌, ◌++◌, ℕ, suc, length, map, drop}
 use Rattle.std.specs.declared.vec.Vec.{Vec}
 use Rattle.std.specs.declared.alloc.Global.{Global}
-use Rattle.s66_line.specs.Block.{entries_of_texts}
+use Rattle.s66_line.specs.Blocks.{entries_of_texts}
 use Rattle.s66_line.proofs.block.Block.of.Given as goal
 
 abbrev pub invariant-loop-position : goal.invariant-loop-position

@@ -2,7 +2,7 @@ use Rattle.std.proofs.Common.{◌≡◌, ◌≤◌, ◌+◌, ◌*◌, drop, map}
 use Rattle.s66_isa.specs.Lists.{weigh}
 use Rattle.s66_isa.specs.Table.{parcels_of}
 use Rattle.s66_isa.specs.declared.instr.Instr.{Instr}
-use Rattle.s66_line.specs.Block.{Entry, instrs_of}
+use Rattle.s66_line.specs.Blocks.{Entry, instrs_of}
 use Rattle.s66_line.proofs.block.Block.parcels.Given as goal
 
 -- the parcels so far, and then those of the rest, are those of all

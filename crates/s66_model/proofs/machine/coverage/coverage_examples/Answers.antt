@@ -6,7 +6,7 @@ use Rattle.s66_model.specs.Examples.{three_multiplies}
 use Rattle.s66_model.specs.LedgerExamples.{node}
 use Rattle.s66_model.specs.Leaves.{Chain, Load}
 use Rattle.s66_model.specs.DominatedLeaves.{Bounding}
-use Rattle.s66_model.specs.Ledger.{Cut}
+use Rattle.s66_model.specs.LedgerRuns.{Cut}
 use Rattle.s66_model.specs.Timing.{issue_of, start_of, point}
 use Rattle.s66_model.proofs.LegalOrders.{order-legal}
 use Rattle.s66_model.proofs.machine.coverage.coverage_examples.Goals as goal

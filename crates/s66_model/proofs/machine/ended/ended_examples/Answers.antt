@@ -7,7 +7,7 @@ use Rattle.s66_model.specs.LegalOrder.{IsIncomplete}
 use Rattle.s66_model.specs.Leaves.{Whole, floor_value}
 use Rattle.s66_model.specs.Piece.{Carries}
 use Rattle.s66_model.specs.DominatedLeaves.{Bounding}
-use Rattle.s66_model.specs.Ledger.{Ledger, Node, Open, Out, Closed, is_live, opening, best_time, after_graft}
+use Rattle.s66_model.specs.LedgerRuns.{Ledger, Node, Open, Out, Closed, is_live, opening, best_time, after_graft}
 use Rattle.s66_model.specs.Ended.{IsEnded}
 use Rattle.s66_model.specs.Examples.{boolean_problem, load_problem, multiply_problem, every_order}
 use Rattle.s66_model.specs.LedgerExamples.{node, ledger, first_node, root_split, without_grants, load_grafted}

@@ -6,7 +6,7 @@ use Rattle.s66_model.specs.declared.rule.Rule.TheVariants.{NoneNamed}
 use Rattle.s66_model.specs.Timing.{issue_of, start_of, point}
 use Rattle.s66_model.specs.Dependence.{conflict}
 use Rattle.s66_model.specs.Leaves.{Load, floor_value}
-use Rattle.s66_model.specs.Tree.{Tree, Alone, Parted}
+use Rattle.s66_model.specs.Trees.{Tree, Alone, Parted}
 use Rattle.s66_model.specs.Piece.{Terminal, Carries, Frontier, Passed}
 use Rattle.s66_model.specs.Expansion.{IsExpansion}
 use Rattle.s66_model.specs.Examples.{load_problem, multiply_problem}

@@ -3,7 +3,7 @@ use Rattle.s66_model.specs.declared.rule.Rule.{Rule}
 use Rattle.s66_model.specs.Timing.{Problem}
 use Rattle.s66_model.specs.LegalOrder.{IsIncomplete}
 use Rattle.s66_model.specs.Leaves.{value, floor_value}
-use Rattle.s66_model.specs.Tree.{Tree, Alone, Parted, splits}
+use Rattle.s66_model.specs.Trees.{Tree, Alone, Parted, splits}
 use Rattle.s66_model.specs.Piece.{Terminal, Carries, Frontier, Passed, TerminalHolds}
 use Rattle.s66_model.specs.Expansion.{TerminalHoldsWhile, IsExpansion}
 use Rattle.s66_model.proofs.LedgerSteps.{root-stands}

@@ -4,8 +4,8 @@ use Rattle.s66_isa.specs.Table.{row}
 use Rattle.s66_model.specs.Timing.{issue_of, start_of, point}
 use Rattle.s66_model.specs.Dependence.{conflict}
 use Rattle.s66_model.specs.DominatedLeaves.{Ending}
-use Rattle.s66_model.specs.Tree.{Tree, Alone, Parted, Siblings, Unsplit, Split, splits, sibling_splits, split_at, siblings_split_at}
-use Rattle.s66_model.specs.Ledger.{Cut}
+use Rattle.s66_model.specs.Trees.{Tree, Alone, Parted, Siblings, Unsplit, Split, splits, sibling_splits, split_at, siblings_split_at}
+use Rattle.s66_model.specs.LedgerRuns.{Cut}
 use Rattle.s66_model.specs.Examples.{load_problem}
 use Rattle.s66_model.specs.LedgerExamples.{node}
 use Rattle.s66_model.proofs.Beginnings.{source-legal}

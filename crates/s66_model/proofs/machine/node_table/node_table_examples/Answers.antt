@@ -1,6 +1,6 @@
 use Rattle.std.proofs.Common.{[], ◌∷◌, refl, inl, inr, arith}
 use Rattle.s66_model.specs.Dependence.{conflict}
-use Rattle.s66_model.specs.Ledger.{Cut}
+use Rattle.s66_model.specs.LedgerRuns.{Cut}
 use Rattle.s66_model.specs.LedgerExamples.{node}
 use Rattle.s66_model.proofs.machine.node_table.node_table_examples.Goals as goal
 

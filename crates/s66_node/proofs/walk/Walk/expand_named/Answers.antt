@@ -1,9 +1,9 @@
 use Rattle.std.proofs.Common.{◌≡◌, List, Option, arith, rules, length, ◌∙◌, ap, subst, refl}
 use Rattle.std.specs.Option.{option_map}
 use Rattle.s66_isa.specs.declared.instr.Instr.{Instr}
-use Rattle.s66_line.specs.Block.{instrs_of}
+use Rattle.s66_line.specs.Blocks.{instrs_of}
 use Rattle.s66_model.specs.Timing.{Problem}
-use Rattle.s66_model.specs.Tree.{Tree}
+use Rattle.s66_model.specs.Trees.{Tree}
 use Rattle.s66_model.specs.Piece.{Terminal}
 use Rattle.s66_model.specs.Expansion.{whole_orders}
 use Rattle.s66_time.proofs.LongestBeginning.{beginning-few}

@@ -4,7 +4,7 @@ use Rattle.std.specs.Cmp.{both_ways}
 use Rattle.s66_isa.specs.Lists.{has, every}
 use Rattle.s66_isa.specs.Table.{numbers}
 use Rattle.s66_isa.proofs.Lists.{every-each, each-every, has-among, among-has}
-use Rattle.s66_line.specs.Block.{instrs_of}
+use Rattle.s66_line.specs.Blocks.{instrs_of}
 use Rattle.s66_model.specs.Dependence.{needs, all_needs}
 use Rattle.s66_model.specs.LegalOrder.{is_ready}
 use Rattle.s66_model.proofs.Beginnings.{length-rising}

@@ -1,4 +1,4 @@
-use Rattle.s66_line.specs.Block.{instrs_of}
+use Rattle.s66_line.specs.Blocks.{instrs_of}
 use Rattle.s66_node.specs.Walked.{IsReadyFront}
 use Rattle.s66_node.proofs.walk.Walk.ready.Given as goal
 

@@ -1,6 +1,6 @@
 use Rattle.std.proofs.Common.{rules, ◌≡◌, ap, refl, ◌∙◌}
 use Rattle.std.proofs.lemmas.Result.{IfOk-weaker}
-use Rattle.s66_model.specs.Ledger.{Back, Returned, NotOut}
+use Rattle.s66_model.specs.LedgerRuns.{Back, Returned, NotOut}
 use Rattle.s66_model.specs.Accounts.{SeatRecord, after_event}
 use Rattle.s66_ledger.specs.Ledgers.{account_summary}
 use Rattle.s66_share.specs.LockTokens.{book}

@@ -1,6 +1,6 @@
 use Rattle.std.proofs.Common.{◌≡◌, ap, refl, ◌∙◌}
 use Rattle.std.proofs.lemmas.Result.{IfOk-weaker, on_err_weaker}
-use Rattle.s66_model.specs.Ledger.{Retire, Retired}
+use Rattle.s66_model.specs.LedgerRuns.{Retire, Retired}
 use Rattle.s66_model.specs.Accounts.{SeatRecord, after_event}
 use Rattle.s66_ledger.specs.Ledgers.{account_summary}
 use Rattle.s66_share.specs.LockTokens.{book}

@@ -1,7 +1,7 @@
 use Rattle.std.proofs.Common.{ℕ, ◌∙◌, ◌++◌, List, ap, ap₂}
 use Rattle.s66_isa.specs.declared.profile.Profile.{Profile}
 use Rattle.s66_time.specs.Ordered.{Ordered}
-use Rattle.s66_line.specs.Block.{instrs_of}
+use Rattle.s66_line.specs.Blocks.{instrs_of}
 use Rattle.s66_program.specs.Entries.{entry_at}
 use Rattle.s66_views.specs.Json.{found_data, json_line}
 use Rattle.s66_answer.specs.Stored.{answer_in}

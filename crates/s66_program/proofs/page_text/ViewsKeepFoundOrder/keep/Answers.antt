@@ -1,6 +1,6 @@
 use Rattle.std.proofs.Common.{ℕ, ◌≡◌, ◌∙◌, ◌++◌, List, [], ◌∷◌, ap, ap₂}
 use Rattle.s66_time.specs.Ordered.{Ordered}
-use Rattle.s66_line.specs.Block.{instrs_of}
+use Rattle.s66_line.specs.Blocks.{instrs_of}
 use Rattle.s66_views.specs.FoundOrders.{FoundOrder}
 use Rattle.s66_answer.specs.Stored.{answer_in}
 use Rattle.s66_program.specs.BestReasons.{best_reasons}

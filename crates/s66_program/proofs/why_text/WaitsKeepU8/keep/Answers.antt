@@ -2,7 +2,7 @@ use Rattle.std.proofs.Common.{ℕ, ◌∙◌, ◌≡◌, ◌++◌, List, ap, ap�
 use Rattle.s66_isa.specs.declared.profile.Profile.{Profile}
 use Rattle.s66_time.specs.Ordered.{Ordered}
 use Rattle.s66_time.specs.TimedOrder.{TimedOrder}
-use Rattle.s66_line.specs.Block.{instrs_of}
+use Rattle.s66_line.specs.Blocks.{instrs_of}
 use Rattle.s66_answer.specs.Stored.{answer_in}
 use Rattle.s66_program.specs.BestReasons.{best_reasons}
 use Rattle.s66_program.specs.WhyText.{waits_lines}

@@ -1,7 +1,7 @@
 use Rattle.std.proofs.Common.{◌∙◌, None, List, ap, sym}
 use Rattle.s66_model.specs.Timing.{Problem}
 use Rattle.s66_moments.specs.declared.fact_line.FactStep.{FactStep}
-use Rattle.s66_moments.specs.Known.{Known}
+use Rattle.s66_moments.specs.KnownFacts.{Known}
 use Rattle.s66_moments.specs.Networks.{network}
 use Rattle.s66_facts.specs.Marked.{before_in}
 use Rattle.s66_cert.specs.DocumentParts.{Parts, document_of}

@@ -1,5 +1,5 @@
 use Rattle.std.proofs.Common.{◌∙◌, ap}
-use Rattle.s66_moments.specs.Known.{Known}
+use Rattle.s66_moments.specs.KnownFacts.{Known}
 use Rattle.s66_moments.specs.Networks.{precedes}
 use Rattle.s66_cert.specs.DocumentParts.{Parts, document_of}
 use Rattle.s66_checker.specs.Verdict.{problem_of}

@@ -1,7 +1,7 @@
 use Rattle.std.proofs.Common.{◌∙◌, ap}
-use Rattle.s66_moments.specs.Known.{Known}
+use Rattle.s66_moments.specs.KnownFacts.{Known}
 use Rattle.s66_moments.specs.Networks.{precedes}
-use Rattle.s66_cert.specs.Document.{Document}
+use Rattle.s66_cert.specs.Documents.{Document}
 use Rattle.s66_cert.specs.DocumentParts.{Parts, document_of}
 use Rattle.s66_checker.specs.Verdict.{problem_of}
 use Rattle.s66_reasons.specs.LongestPaths.{pair_by}

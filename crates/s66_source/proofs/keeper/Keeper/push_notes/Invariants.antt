@@ -1,5 +1,5 @@
 use Rattle.std.proofs.Common.{◌≡◌, ◌≤◌, ◌-◌, ◌++◌, drop}
-use Rattle.s66_line.specs.Block.{line_of}
+use Rattle.s66_line.specs.Blocks.{line_of}
 use Rattle.s66_source.specs.Printed.{notes_text}
 use Rattle.s66_source.specs.Source.{classed_lines}
 use Rattle.s66_source.proofs.keeper.Keeper.push_notes.Given as goal

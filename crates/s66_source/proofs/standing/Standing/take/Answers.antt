@@ -1,7 +1,7 @@
 use Rattle.std.proofs.Common.{◌≡◌, ◌≤◌, ◌∙◌, ◌||◌, ℕ, suc, subst, Bool, true, false, List, if◌then◌else◌, codes, take, sym, ap}
 use Rattle.std.specs.Prelude.{bytes_eq}
 use Rattle.std.proofs.lemmas.Bool.{or_parts}
-use Rattle.s66_line.specs.Class.{class_of, is_code}
+use Rattle.s66_line.specs.Classes.{class_of, is_code}
 use Rattle.s66_line.specs.Fields.{upper}
 use Rattle.s66_line.specs.declared.class.Class.TheVariants.{Other}
 use Rattle.s66_source.specs.LeftAlone.{after_line, class_at, is_alone, Standing}

@@ -1,5 +1,5 @@
 use Rattle.std.proofs.Common.{◌∙◌, sym, ap}
-use Rattle.s66_line.specs.Block.{Block, instrs_of}
+use Rattle.s66_line.specs.Blocks.{Block, instrs_of}
 use Rattle.s66_model.specs.LegalOrder.{is_ready}
 use Rattle.s66_isa.specs.Members.{numbers_in}
 use Rattle.s66_time.proofs.Readiness.{has-ready_same}

@@ -1,7 +1,7 @@
 use Rattle.std.proofs.Common.{ap, arith, ◌∙◌, ◌+◌, ◌≡◌}
 use Rattle.s66_isa.specs.Lists.{weigh}
 use Rattle.s66_isa.specs.Table.{copies_of}
-use Rattle.s66_line.specs.Block.{instrs_of}
+use Rattle.s66_line.specs.Blocks.{instrs_of}
 use Rattle.s66_model.specs.Timing.{Problem, points_of, next}
 use Rattle.s66_model.specs.Leaves.{rest_busy}
 use Rattle.s66_time.specs.Places.{first_unit}

@@ -1,7 +1,7 @@
 use Rattle.std.proofs.Common.{ap, arith, cond, sym, ◌+◌, ◌∙◌, ◌≡◌}
 use Rattle.s66_isa.specs.Lists.{greatest}
 use Rattle.s66_isa.specs.Table.{memory_pair}
-use Rattle.s66_line.specs.Block.{instrs_of}
+use Rattle.s66_line.specs.Blocks.{instrs_of}
 use Rattle.s66_model.specs.Timing.{Point, points_of}
 use Rattle.s66_time.specs.ClockWords.{wait_of}
 use Rattle.s66_time.specs.Ticking.{points, numbers_of}

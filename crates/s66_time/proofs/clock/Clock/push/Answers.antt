@@ -1,5 +1,5 @@
 use Rattle.std.proofs.Common.{arith, ap, ◌∙◌, ◌-◌, get_or, map, sym, subst, true, ◌≡◌, ℕ, List}
-use Rattle.s66_line.specs.Block.{instrs_of}
+use Rattle.s66_line.specs.Blocks.{instrs_of}
 use Rattle.s66_model.specs.LegalOrder.{is_ready}
 use Rattle.s66_model.proofs.LegalOrders.{ready-parts}
 use Rattle.s66_isa.specs.declared.profile.Profile.{Profile}

@@ -1,6 +1,6 @@
 use Rattle.std.proofs.Common.{ap, subst, arith, length, ◌∙◌}
 use Rattle.s66_isa.specs.Lists.{has}
-use Rattle.s66_line.specs.Block.{instrs_of}
+use Rattle.s66_line.specs.Blocks.{instrs_of}
 use Rattle.s66_model.specs.LegalOrder.{IsBeginning}
 use Rattle.s66_time.specs.Ticking.{Ticking}
 use Rattle.s66_time.proofs.Clocks.{clock-words, has-points}

@@ -1,6 +1,6 @@
 use Rattle.std.proofs.Common.{ℕ, ap, arith, sym, subst, ◌+◌, ◌%◌, ◌≡◌, ◌<◌, ◌∙◌, get_or}
 use Rattle.s66_isa.specs.declared.instr.Kind.{Kind}
-use Rattle.s66_line.specs.Block.{instrs_of}
+use Rattle.s66_line.specs.Blocks.{instrs_of}
 use Rattle.s66_model.specs.Timing.{Problem}
 use Rattle.s66_time.specs.KeptUnits.{kept_of, first_kept}
 use Rattle.s66_time.specs.LatestWords.{words_from, kept_in}

@@ -1,7 +1,7 @@
 use Rattle.std.proofs.Common.{arith, subst, leb, ltb, ◌≡◌, get_or, ◌-◌}
 use Rattle.s66_isa.specs.Lists.{tally}
 use Rattle.s66_isa.specs.Table.{copies_of}
-use Rattle.s66_line.specs.Block.{instrs_of}
+use Rattle.s66_line.specs.Blocks.{instrs_of}
 use Rattle.s66_model.specs.Timing.{Problem, points_of, busy_at}
 use Rattle.s66_time.specs.ClockWords.{IsSoonest}
 use Rattle.s66_time.specs.Places.{first_unit}

@@ -1,5 +1,5 @@
 use Rattle.std.proofs.Common.{arith, ap, ◌-◌, ◌+◌, ◌≡◌, length}
-use Rattle.s66_line.specs.Block.{instrs_of}
+use Rattle.s66_line.specs.Blocks.{instrs_of}
 use Rattle.s66_model.specs.Timing.{Problem}
 use Rattle.s66_time.specs.Ticking.{Ticking}
 use Rattle.s66_time.proofs.Clocks.{after_undo-clock, last-split, length-numbers}

@@ -1,5 +1,5 @@
 use Rattle.std.proofs.Common.{ap, subst, arith, length, get_or, ◌∙◌}
-use Rattle.s66_line.specs.Block.{instrs_of}
+use Rattle.s66_line.specs.Blocks.{instrs_of}
 use Rattle.s66_model.specs.LegalOrder.{IsBeginning}
 use Rattle.s66_time.specs.ClockWords.{worked_of}
 use Rattle.s66_time.specs.Ticking.{Ticking, points}

@@ -1,7 +1,7 @@
 use Rattle.std.proofs.Common.{◌∙◌, ◌||◌, eqb, sym, subst, ap, arith, take, get_or, inl, inr, refl}
 use Rattle.std.proofs.lemmas.List.{take_more, length-take}
 use Rattle.s66_isa.specs.Lists.{has}
-use Rattle.s66_line.specs.Block.{instrs_of}
+use Rattle.s66_line.specs.Blocks.{instrs_of}
 use Rattle.s66_model.specs.LegalOrder.{IsFront, IsBeginning}
 use Rattle.s66_model.proofs.LegalOrders.{has-push}
 use Rattle.s66_model.proofs.Beginnings.{beginning-front}

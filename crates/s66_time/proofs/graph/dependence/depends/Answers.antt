@@ -1,5 +1,5 @@
 use Rattle.std.proofs.Common.{◌∙◌, sym, subst, arith}
-use Rattle.s66_line.specs.Block.{instrs_of}
+use Rattle.s66_line.specs.Blocks.{instrs_of}
 use Rattle.s66_isa.specs.Table.{instr_at}
 use Rattle.s66_time.specs.Effects.{AreEffects}
 use Rattle.s66_time.proofs.Conflicts.{conflict-is}

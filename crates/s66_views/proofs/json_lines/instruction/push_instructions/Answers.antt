@@ -4,7 +4,7 @@ use Rattle.std.proofs.lemmas.Bool.{lt-ltb}
 use Rattle.std.proofs.lemmas.Result.{IfOk-equal}
 use Rattle.serde_json.specs.Written.{comma_if}
 use Rattle.s66_isa.specs.Lists.{rising}
-use Rattle.s66_line.specs.Block.{instrs_of}
+use Rattle.s66_line.specs.Blocks.{instrs_of}
 use Rattle.s66_time.proofs.Readiness.{needs-at}
 use Rattle.s66_views.specs.Pieces.{instruction_text, instructions_text, listed}
 use Rattle.s66_views.proofs.Appended.{of-three}

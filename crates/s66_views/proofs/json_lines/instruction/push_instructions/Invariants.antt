@@ -2,7 +2,7 @@ use Rattle.std.proofs.Common.{◌≡◌, ◌+◌, ◌-◌, ◌++◌, codes, fals
 use Rattle.std.specs.Prelude.{nat_lt}
 use Rattle.s66_isa.specs.Lists.{rising}
 use Rattle.s66_isa.specs.Table.{numbers}
-use Rattle.s66_line.specs.Block.{instrs_of}
+use Rattle.s66_line.specs.Blocks.{instrs_of}
 use Rattle.s66_views.specs.Pieces.{instruction_text, listed}
 use Rattle.s66_views.proofs.json_lines.instruction.push_instructions.Given as goal
 

@@ -2,7 +2,7 @@ use Rattle.std.proofs.Common.{ℕ, ◌≡◌, ◌<◌, ◌++◌, ◌∙◌, List
 use Rattle.std.proofs.lemmas.List.{get_or_default, get_or-map, length-map, reverse-reverse, take_all}
 use Rattle.s66_time.specs.Ordered.{Ordered}
 use Rattle.s66_isa.specs.declared.instr.Kind.TheVariants.{Boolean}
-use Rattle.s66_line.specs.Block.{bytes_of}
+use Rattle.s66_line.specs.Blocks.{bytes_of}
 use Rattle.s66_model.specs.Timing.{Point, points_of}
 use Rattle.s66_time.specs.TimedOrder.{point_at, no_point}
 use Rattle.s66_why.specs.declared.work.Work.{Work}

@@ -3,7 +3,7 @@ use Rattle.std.proofs.lemmas.List.{map-append}
 use Rattle.s66_isa.specs.Lists.{rising}
 use Rattle.s66_isa.specs.Table.{instr_at}
 use Rattle.s66_model.specs.Dependence.{needs}
-use Rattle.s66_line.specs.Block.{instrs_of}
+use Rattle.s66_line.specs.Blocks.{instrs_of}
 use Rattle.s66_time.specs.declared.graph.effects.Effects.{Effects}
 use Rattle.s66_isa.specs.Members.{numbers_in}
 use Rattle.s66_time.specs.Effects.{AreEffects, AreEffectsOf}

@@ -3,7 +3,7 @@ use Rattle.std.proofs.lemmas.Bool.{cases_lt}
 use Rattle.std.proofs.lemmas.List.{map-append, get_or_append_left}
 use Rattle.std.proofs.Math.Seq.{get_or-append_seam}
 use Rattle.s66_isa.specs.Lists.{has, rising}
-use Rattle.s66_line.specs.Block.{instrs_of}
+use Rattle.s66_line.specs.Blocks.{instrs_of}
 use Rattle.s66_isa.specs.declared.set.Set.{Set}
 use Rattle.s66_isa.specs.Members.{numbers_in, no_set}
 use Rattle.s66_time.specs.Opens.{needs_of, is_direct, opens}

@@ -1,5 +1,5 @@
 use Rattle.std.proofs.Common.{arith, true≢false, sym}
-use Rattle.s66_line.specs.Block.{instrs_of}
+use Rattle.s66_line.specs.Blocks.{instrs_of}
 use Rattle.s66_time.proofs.LongestBeginning.{all-front, front-legal, legal-all, legal-kept}
 use Rattle.s66_time.proofs.graph.order.Order.new.Goals as goal
 use Rattle.s66_time.proofs.graph.order.Order.new.Goals.{then-front-numbers-via-then-front-numbers, then-front-numbers-via-else-front-numbers+then-front-count}

@@ -5,7 +5,7 @@ use Rattle.s66_isa.specs.Lists.{Among}
 use Rattle.s66_model.specs.Timing.{Problem}
 use Rattle.s66_moments.specs.declared.fact_line.KnownArc.{KnownArc}
 use Rattle.s66_moments.specs.Networks.{Network, IsTransitive, HasNoRing}
-use Rattle.s66_moments.specs.Known.{Known, is_arc_up, arcs_of}
+use Rattle.s66_moments.specs.KnownFacts.{Known, is_arc_up, arcs_of}
 use Rattle.s66_isa.specs.declared.set.Set.{Set}
 use Rattle.s66_facts.specs.Marked.{before_in}
 

@@ -2,7 +2,7 @@
 use Rattle.std.specs.Prelude.{ℕ, Bool, true, not, ◌&&◌, ◌||◌, ◌==◌, if◌then◌else◌, List, [], ◌∷◌, ◌++◌, codes, length, map, nat_le, take}
 use Rattle.std.specs.List.{filter}
 use Rattle.s66_isa.specs.Lists.{has}
-use Rattle.s66_line.specs.Class.{is_located}
+use Rattle.s66_line.specs.Classes.{is_located}
 use Rattle.s66_line.specs.Fields.{body, continues, is_comment, location, operand, operation, upper}
 use Rattle.s66_line.specs.InstructionText.{operand_in, operation_in}
 use Rattle.s66_line.specs.Operand.{is_near, is_octal, is_sign}
