@@ -1,13 +1,11 @@
 -- The register of the lowest index in a set, and the others.
-use Rattle.std.proofs.Common.{ℕ, zero, suc, ◌-◌, ◌<◌, ◌≡◌, ◌==◌, Bool, List, [], ◌∷◌, map, filter, bit_and, w32, refl, sym, ap, ◌∙◌, inl, inr, arith, eq-eqb, ne_eqb}
 use Rattle.std.specs.Int.{bit_at, trailing_zeros}
+use Rattle.std.proofs.Common.{ℕ, zero, suc, ◌-◌, ◌<◌, ◌≡◌, ◌==◌, Bool, List, [], ◌∷◌, map, filter, bit_and, w32, refl, sym, ap, ◌∙◌, inl, inr, arith, eq-eqb, ne_eqb}
 use Rattle.std.proofs.lemmas.Bool.{cases_lt, cond_both}
 use Rattle.std.proofs.lemmas.Nat.Bits.{shr_and_one, bit_at-zero, bit_at_above}
 use Rattle.s66_isa.specs.declared.registers.Registers.{Registers}
-use Rattle.s66_isa.specs.Lists.{rising}
+use Rattle.s66_isa.specs.{rising, register_at, is_there, registers_in, register_at-index}
 use Rattle.s66_isa.specs.Table.{Reg}
-use Rattle.s66_isa.specs.Registers.{register_at, is_there, registers_in}
-use Rattle.s66_isa.specs.RegisterIndices.{register_at-index}
 use Rattle.s66_isa.proofs.Lists.{filter-same, among-rising}
 use Rattle.s66_isa.proofs.Lowest.{filter-first, lowest-bit}
 

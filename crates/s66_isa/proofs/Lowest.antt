@@ -1,10 +1,10 @@
 -- The lowest bit of a word, the word without it, and the first of the rising numbers that pass a test.
-use Rattle.std.proofs.Common.{ℕ, zero, suc, ◌+◌, ◌-◌, ◌/◌, ◌%◌, ◌^◌, ◌≤◌, ◌<◌, ◌≡◌, Bool, true, false, ◌∷◌, filter, bit_and, sym, ap, ◌∙◌, inl, inr, arith}
 use mir.Val.{bits}
 use Rattle.std.specs.Int.{Width, bit_at, trailing_zeros}
+use Rattle.std.proofs.Common.{ℕ, zero, suc, ◌+◌, ◌-◌, ◌/◌, ◌%◌, ◌^◌, ◌≤◌, ◌<◌, ◌≡◌, Bool, true, false, ◌∷◌, filter, bit_and, sym, ap, ◌∙◌, inl, inr, arith}
 use Rattle.std.proofs.lemmas.Bool.{cases_eq}
 use Rattle.std.proofs.lemmas.Nat.Bits.{bit_at-suc, bit_at_lowest, bit_at_and, bit_at-trailing_zeros}
-use Rattle.s66_isa.specs.Lists.{rising}
+use Rattle.s66_isa.specs.{rising}
 use Rattle.s66_isa.proofs.Lists.{filter-same, among-rising}
 
 -- the first that passes, and those that pass after it

@@ -1,14 +1,11 @@
 -- The numbers of a profile are in range, and make it again.
-use Rattle.std.specs.Prelude.{◌≡◌, ◌≤◌, ℕ, zero, suc, List, [], ◌∷◌, All, length, max, min, slice_index_or}
-use Rattle.std.proofs.Common.{ap, ◌∙◌, refl, sym}
-use Rattle.std.proofs.Math.Bridge.{le_prop}
 use mathlib.Core.HLevel.{is_prop→PathP}
-use Rattle.std.proofs.Math.Nat.{max-eq_right, min-eq_right}
 use Rattle.std.specs.List.{AllByRecursion}
+use Rattle.std.proofs.Common.{◌≡◌, ◌≤◌, ℕ, zero, suc, List, [], ◌∷◌, All, length, max, min, slice_index_or, ap, ◌∙◌, refl, sym}
+use Rattle.std.proofs.Math.Bridge.{le_prop}
+use Rattle.std.proofs.Math.Nat.{max-eq_right, min-eq_right}
 use Rattle.std.proofs.lemmas.List.Elements.{All-cons, All-nil}
-use Rattle.s66_isa.specs.Table.{entries}
-use Rattle.s66_isa.specs.Profiles.{IsProfile, nearest, profile_of}
-use Rattle.s66_isa.specs.declared.profile.Profile.{Profile}
+use Rattle.s66_isa.specs.{entries, IsProfile, nearest, profile_of, Profile}
 
 all-of : (ns : List ℕ) → AllByRecursion (λ n. (1 ≤ n) × (n ≤ 100)) ns → All (λ n. (1 ≤ n) × (n ≤ 100)) ns
 all-of [] are = All-nil (λ n. (1 ≤ n) × (n ≤ 100))

@@ -1,17 +1,13 @@
 -- The registers in a set, the bits of its word, and a word for each register.
-use Rattle.std.proofs.Common.{ℕ, ◌*◌, ◌%◌, ◌^◌, ◌≤◌, ◌<◌, ◌≡◌, ◌≢◌, Bool, true, false, not, ◌&&◌, ◌||◌, ◌==◌, List, [], ◌∷◌, filter, bit_and, bit_or, w32, eqb-true, eq-eqb, ne_eqb, true≢false, leb, cond, max, length, set, refl, sym, ap, ◌∙◌, inl, inr, arith}
 use Rattle.std.specs.Int.{bit_at, trailing_zeros}
+use Rattle.std.proofs.Common.{ℕ, ◌*◌, ◌%◌, ◌^◌, ◌≤◌, ◌<◌, ◌≡◌, ◌≢◌, Bool, true, false, not, ◌&&◌, ◌||◌, ◌==◌, List, [], ◌∷◌, filter, bit_and, bit_or, w32, eqb-true, eq-eqb, ne_eqb, true≢false, leb}
+use Rattle.std.proofs.Common.{cond, max, length, set, refl, sym, ap, ◌∙◌, inl, inr, arith, le-leb, get_or-set_same, get_or-set_other}
 use Rattle.std.proofs.lemmas.Nat.{or_lt, pow_below, and_le_l}
-use Rattle.std.proofs.lemmas.Bool.{cases_eq, cases_lt, cases_Bool, false_from_ne_true, or_from, or_cases, or_left, or_right, and_from, and_left, and_right, le-leb, lt-leb}
+use Rattle.std.proofs.lemmas.Bool.{cases_eq, cases_lt, cases_Bool, false_from_ne_true, or_from, or_cases, or_left, or_right, and_from, and_left, and_right, lt-leb}
 use Rattle.std.proofs.lemmas.Nat.Bits.{shr_and_one, bit_at-lt, bit_at_and, bit_at_above, bit_at_set_same, bit_at_set_other, bit_at-zero, bit_at-trailing_zeros}
-use Rattle.std.proofs.lemmas.List.{get_or-set_same, get_or-set_other}
-use Rattle.s66_isa.specs.declared.reg.Bank.{Bank}
-use Rattle.s66_isa.specs.declared.reg.Bank.TheVariants.{A, B, X}
+use Rattle.s66_isa.specs.{Bank, A, B, X, some_of, bank_number, same_reg, has_reg, index_of, register_at, word_of, all_registers, is_there, registers_in, register_at-index}
 use Rattle.s66_isa.specs.declared.registers.Registers.{Registers}
-use Rattle.s66_isa.specs.Lists.{some_of}
-use Rattle.s66_isa.specs.Table.{Reg, bank_number, same_reg, has_reg}
-use Rattle.s66_isa.specs.Registers.{index_of, register_at, word_of, all_registers, is_there, registers_in}
-use Rattle.s66_isa.specs.RegisterIndices.{register_at-index}
+use Rattle.s66_isa.specs.Table.{Reg}
 use Rattle.s66_isa.proofs.SameRegister.{same_reg-true, same_reg-self}
 
 -- THE REGISTERS BY THEIR INDICES

@@ -1,11 +1,9 @@
 -- Registers that the tests call the same are the same, and which are in a list.
-use Rattle.std.proofs.Common.{ℕ, zero, suc, ◌≤◌, ◌≡◌, Bool, true, false, true≢false, cond, ◌||◌, List, [], ◌∷◌, ◌++◌, refl, sym, ap, arith, inl, inr, eqb, ◌∙◌}
-use Rattle.std.proofs.lemmas.Bool.{cases_Bool, or_cases, or_left, or_right, and_parts, and_from, eqb-true, eq-eqb}
+use Rattle.std.proofs.Common.{ℕ, zero, suc, ◌≤◌, ◌≡◌, Bool, true, false, true≢false, cond, ◌||◌, List, [], ◌∷◌, ◌++◌, refl, sym, ap, arith, inl, inr, eqb, ◌∙◌, eqb-true, eq-eqb}
+use Rattle.std.proofs.lemmas.Bool.{cases_Bool, or_cases, or_left, or_right, and_parts, and_from}
 use Rattle.std.proofs.Math.Bool.{or_assoc, or-false}
-use Rattle.s66_isa.specs.declared.reg.Bank.{Bank}
-use Rattle.s66_isa.specs.declared.reg.Bank.TheVariants.{A, B, X}
-use Rattle.s66_isa.specs.Lists.{greatest, some_of}
-use Rattle.s66_isa.specs.Table.{Reg, Instr, bank_number, b_reg, same_reg, is_b0, has_reg, insert, insert_all, operands_of, stored_registers, reads_of, memory_of}
+use Rattle.s66_isa.specs.{Bank, A, B, X, greatest, some_of, bank_number, b_reg, same_reg, is_b0, has_reg, insert, insert_all, operands_of, stored_registers, reads_of, memory_of}
+use Rattle.s66_isa.specs.Table.{Reg, Instr}
 
 bank_of_number : ℕ → Bank
 bank_of_number zero = A

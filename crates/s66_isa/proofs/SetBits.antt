@@ -1,16 +1,14 @@
 -- The numbers in a set of `src/set.rt`, and the bits of its two words.
-use Rattle.std.proofs.Common.{ℕ, zero, suc, ◌+◌, ◌-◌, ◌*◌, ◌/◌, ◌%◌, ◌^◌, ◌≤◌, ◌<◌, ◌≡◌, ◌⊎◌, Bool, true, false, cond, ◌||◌, ◌&&◌, not, ◌==◌, ◌∷◌, ◌++◌, List, length, filter, min, bit_and, bit_or, count_ones, eqb-true, eq-eqb, ne_eqb, refl, sym, ap, subst, ◌∙◌, inl, inr, arith, pow-suc, length-append}
-use Rattle.std.specs.Int.{w64, bit_at, bit_not}
+use lib.Bits.{and_comm}
+use Rattle.std.specs.Int.{bit_at, bit_not}
 use Rattle.std.specs.Int.Count.{ones_step}
-use Rattle.std.proofs.lemmas.Bool.{cases_eq, cases_lt, cond_both, or_from, eqb-false, and_parts, le-leb, lt-leb}
+use Rattle.std.proofs.Common.{ℕ, zero, suc, ◌+◌, ◌-◌, ◌*◌, ◌/◌, ◌%◌, ◌^◌, ◌≤◌, ◌<◌, ◌≡◌, ◌⊎◌, Bool, true, false, cond, ◌||◌, ◌&&◌, not, ◌==◌, ◌∷◌, ◌++◌, List, length, filter, min, bit_and, bit_or}
+use Rattle.std.proofs.Common.{count_ones, eqb-true, eq-eqb, ne_eqb, refl, sym, ap, subst, ◌∙◌, inl, inr, arith, pow-suc, length-append, w64, le-leb}
+use Rattle.std.proofs.lemmas.Bool.{cases_eq, cases_lt, cond_both, or_from, eqb-false, and_parts, lt-leb}
 use Rattle.std.proofs.lemmas.List.Elements.{filter-append}
 use Rattle.std.proofs.lemmas.Nat.{ones_le_self, and_le_l}
-use lib.Bits.{and_comm}
 use Rattle.std.proofs.lemmas.Nat.Bits.{bit_at-lt, bit_at_lowest, bit_at-suc, bit_at_and, bit_at_or, bit_at_not, bit_at_set_same, bit_at_set_other, same_from_bits_below}
-use Rattle.s66_isa.specs.declared.limits.TheConstants.{BLOCK_LIMIT}
-use Rattle.s66_isa.specs.Lists.{has, rising}
-use Rattle.s66_isa.specs.declared.set.Set.{Set}
-use Rattle.s66_isa.specs.Members.{bit_of, is_member, numbers_in}
+use Rattle.s66_isa.specs.{BLOCK_LIMIT, has, rising, Set, bit_of, is_member, numbers_in}
 
 -- RISING NUMBERS THAT PASS A TEST
 

@@ -1,11 +1,9 @@
 -- The lowest number of a set of `src/set.rt`, and the others (`pop_first`).
-use Rattle.std.proofs.Common.{ℕ, ◌+◌, ◌-◌, ◌^◌, ◌≤◌, ◌<◌, ◌≡◌, ◌==◌, [], ◌∷◌, bit_and, sym, ap, ◌∙◌, inl, inr, arith}
-use Rattle.std.specs.Int.{w64, bit_at, trailing_zeros}
-use Rattle.std.proofs.lemmas.Bool.{cases_lt, eq-eqb, ne_eqb}
+use Rattle.std.specs.Int.{bit_at, trailing_zeros}
+use Rattle.std.proofs.Common.{ℕ, ◌+◌, ◌-◌, ◌^◌, ◌≤◌, ◌<◌, ◌≡◌, ◌==◌, [], ◌∷◌, bit_and, sym, ap, ◌∙◌, inl, inr, arith, w64, eq-eqb, ne_eqb}
+use Rattle.std.proofs.lemmas.Bool.{cases_lt}
 use Rattle.std.proofs.lemmas.Nat.Bits.{bit_at-zero}
-use Rattle.s66_isa.specs.declared.limits.TheConstants.{BLOCK_LIMIT}
-use Rattle.s66_isa.specs.declared.set.Set.{Set}
-use Rattle.s66_isa.specs.Members.{bit_of, is_member, numbers_in}
+use Rattle.s66_isa.specs.{BLOCK_LIMIT, Set, bit_of, is_member, numbers_in}
 use Rattle.s66_isa.proofs.SetBits.{in-low, in-high}
 use Rattle.s66_isa.proofs.Lowest.{filter-first, lowest-bit}
 use Rattle.s66_isa.proofs.Sets.{filter-none}

@@ -1,14 +1,11 @@
 -- The numbers of a set, by a test and as a rising list, for loops that make a set number by number.
-use Rattle.std.proofs.Common.{ℕ, zero, suc, ◌+◌, ◌≤◌, ◌<◌, ◌≡◌, ◌≢◌, Bool, true, false, cond, not, ◌&&◌, ◌==◌, ◌||◌, List, [], ◌∷◌, length, refl, sym, subst, ap, arith, inl, inr, ltb, leb, eqb, ◌∙◌}
 use Rattle.std.specs.Cmp.{both_ways}
-use Rattle.std.specs.List.{filter}
-use Rattle.std.proofs.lemmas.Bool.{cases_eq, cases_lt, cond_both, and_parts, and_from, and_left, and_right, or_left, leb-true, ltb-true, le-leb, lt-leb, lt-ltb, le-ltb, eq-eqb, ne_eqb, true≢false}
+use Rattle.std.proofs.Common.{ℕ, zero, suc, ◌+◌, ◌≤◌, ◌<◌, ◌≡◌, ◌≢◌, Bool, true, false, cond, not, ◌&&◌, ◌==◌, ◌||◌, List, [], ◌∷◌, length, refl, sym, subst, ap, arith, inl, inr, ltb, leb, eqb, ◌∙◌}
+use Rattle.std.proofs.Common.{filter, leb-true, ltb-true, le-leb, lt-ltb, le-ltb, eq-eqb, ne_eqb, true≢false}
+use Rattle.std.proofs.lemmas.Bool.{cases_eq, cases_lt, cond_both, and_parts, and_from, and_left, and_right, or_left, lt-leb}
 use Rattle.std.proofs.lemmas.List.Filters.{length-filter_both}
-use Rattle.s66_isa.specs.declared.limits.TheConstants.{BLOCK_LIMIT}
-use Rattle.s66_isa.specs.Lists.{has, Among, rising}
+use Rattle.s66_isa.specs.{BLOCK_LIMIT, has, Among, rising, Set, numbers_in, is_member}
 use Rattle.s66_isa.proofs.Lists.{rising-among, among-rising, among-has, has-among, filter-among}
-use Rattle.s66_isa.specs.declared.set.Set.{Set}
-use Rattle.s66_isa.specs.Members.{numbers_in, is_member}
 use Rattle.s66_isa.proofs.SetBits.{has-inside_rising, has-outside_rising}
 
 -- WHEN TWO FILTERED RANGES ARE ONE

@@ -1,11 +1,10 @@
 -- What an instruction writes, and how late.
-use Rattle.std.proofs.Common.{ℕ, ◌≤◌, ◌≡◌, Bool, true, false, cond, ◌&&◌, leb, ltb, eqb, ◌||◌, List, [], ◌∷◌, ◌++◌, map, max, true≢false, arith, refl, sym, ap, ◌∙◌}
+use Rattle.std.proofs.Common.{ℕ, ◌≤◌, ◌≡◌, Bool, true, false, cond, ◌&&◌, leb, ltb, eqb, ◌||◌, List, [], ◌∷◌, ◌++◌, map, max, true≢false, arith, refl, sym, ap, ◌∙◌, leb-true, le-ltb}
 use Rattle.std.proofs.lemmas.List.{map-append}
-use Rattle.std.proofs.lemmas.Bool.{and_parts, leb-true, le-ltb}
+use Rattle.std.proofs.lemmas.Bool.{and_parts}
 use Rattle.s66_isa.specs.declared.instr.Memory.TheVariants as memory
-use Rattle.s66_isa.specs.declared.profile.Profile.{Profile}
-use Rattle.s66_isa.specs.Lists.{greatest}
-use Rattle.s66_isa.specs.Table.{Reg, Instr, Write, Row, row, register_latency, writes_of, hold_of, latency_of, held_registers, loaded_registers, memory_of, touches, a_reg}
+use Rattle.s66_isa.specs.{Profile, greatest, Write, Row, row, register_latency, writes_of, hold_of, latency_of, held_registers, loaded_registers, memory_of, touches, a_reg}
+use Rattle.s66_isa.specs.Table.{Reg, Instr}
 
 -- a result that the unit holds
 abbrev pub held_write : ℕ → Reg → Write

@@ -1,8 +1,7 @@
 -- Used by contracts: the numbers in a set: n is there if its bit is set, bit n - 1 of the low word up to 64, and bit n - 65 of
 -- the high word above.
-use Rattle.std.specs.Prelude.{ℕ, ◌-◌, ◌==◌, if◌then◌else◌, nat_le, Bool, List}
+use Rattle.std.specs.Prelude.{ℕ, ◌-◌, ◌==◌, if◌then◌else◌, nat_le, Bool, List, filter}
 use Rattle.std.specs.Int.{bit_at}
-use Rattle.std.specs.List.{filter}
 use Rattle.s66_isa.specs.declared.limits.TheConstants.{BLOCK_LIMIT}
 use Rattle.s66_isa.specs.Lists.{rising}
 use Rattle.s66_isa.specs.declared.set.Set.{Set}

@@ -1,5 +1,6 @@
 -- Used by the model of a register: the index of the register of an index is that index.
-use Rattle.std.proofs.Common.{ℕ, zero, suc, ◌+◌, ◌*◌, ◌/◌, ◌%◌, ◌<◌, ◌≡◌, refl, ap, ◌∙◌}
+use Rattle.std.specs.Prelude.{ℕ, zero, suc, ◌+◌, ◌*◌, ◌/◌, ◌%◌, ◌<◌, ◌≡◌, refl}
+use Rattle.std.proofs.Common.{ap, ◌∙◌}
 use Rattle.std.proofs.Math.Nat.{not-suc-le-zero, le_of_suc-le-suc, zero-lt-suc, div-lt_iff_lt-mul, div-add-mod}
 use Rattle.s66_isa.specs.Table.{bank_number}
 use Rattle.s66_isa.specs.Registers.{index_of, bank_at, register_at}

@@ -1,8 +1,6 @@
 -- Used by contracts: registers by their indices, and a set of them in one word: a register is there if the bit of its index is
 -- set.
-use Rattle.std.specs.Prelude.{ℕ, zero, suc, ◌+◌, ◌*◌, ◌/◌, ◌%◌, ◌^◌, ◌==◌, Bool, List, ◌++◌, map, get_or}
-use Rattle.std.specs.List.{filter}
-use Rattle.std.specs.Int.Bits.{bit_and}
+use Rattle.std.specs.Prelude.{ℕ, zero, suc, ◌+◌, ◌*◌, ◌/◌, ◌%◌, ◌^◌, ◌==◌, Bool, List, ◌++◌, map, get_or, filter, bit_and}
 use Rattle.s66_isa.specs.Lists.{rising}
 use Rattle.s66_isa.specs.declared.reg.Bank.{Bank}
 use Rattle.s66_isa.specs.declared.reg.Bank.TheVariants.{A, B, X}

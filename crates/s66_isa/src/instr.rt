@@ -6,9 +6,7 @@
 
 ghost use Rattle.std.specs.Prelude.{◌≡◌, ◌+◌, ◌<◌, ◌≤◌};
 ghost use Rattle.arrayvec.specs.ArrayVec.{array_vec_len};
-ghost use Rattle.s66_isa.specs.declared.instr.TheConstants.{KIND_COUNT};
-ghost use Rattle.s66_isa.specs.KindNames.{kind_name};
-ghost use Rattle.s66_isa.specs.Table.{insert, kind_number, same_kind, memory_pair, a_reg, b_reg, x_reg, idle_instr};
+ghost use Rattle.s66_isa.specs.{KIND_COUNT, kind_name, insert, kind_number, same_kind, memory_pair, a_reg, b_reg, x_reg, idle_instr};
 
 use crate::op::Op;
 use crate::profile::Profile;
@@ -151,9 +149,8 @@ impl Default for Instr {
 }
 
 impl Instr {
-    ghost use Rattle.std.specs.Option.{option_to_list};
-    ghost use Rattle.s66_isa.specs.Lists.{greatest};
-    ghost use Rattle.s66_isa.specs.Table.{kind_of, parcels_of, memory_of, shape_of, reads_of, hold_of, held_registers, loaded_registers, results_of, writes_of};
+    ghost use Rattle.std.specs.Prelude.{option_to_list};
+    ghost use Rattle.s66_isa.specs.{greatest, kind_of, parcels_of, memory_of, shape_of, reads_of, hold_of, held_registers, loaded_registers, results_of, writes_of};
 
     /// The instruction of an operation and its octal digits.
     pub fn new(op: Op, i: u8, j: u8, k: u8) -> Instr

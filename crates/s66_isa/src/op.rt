@@ -1,7 +1,7 @@
 //! An operation: one of the 55 octal codes of the instruction table.
 
 ghost use Rattle.std.specs.Prelude.{◌≡◌};
-ghost use Rattle.s66_isa.specs.Table.{IsCode};
+ghost use Rattle.s66_isa.specs.{IsCode};
 
 use std::marker::Model;
 

@@ -36,8 +36,7 @@ pub struct Profile {
 }
 
 impl Profile {
-    ghost use Rattle.s66_isa.specs.Table.{copies_of, entries, standard};
-    ghost use Rattle.s66_isa.specs.Profiles.{IsProfile, profile_of};
+    ghost use Rattle.s66_isa.specs.{copies_of, entries, standard, IsProfile, profile_of};
 
     /// The standard profile: the copies are those of the 6600, the times are this project's.
     pub fn standard() -> Profile

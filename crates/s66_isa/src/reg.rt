@@ -1,7 +1,7 @@
 //! The 24 registers A0 to A7, B0 to B7 and X0 to X7, each by its index.
 
 ghost use Rattle.std.specs.Prelude.{◌≡◌, ◌≤◌};
-ghost use Rattle.s66_isa.specs.Table.{same_reg, is_b0, has_reg};
+ghost use Rattle.s66_isa.specs.{same_reg, is_b0, has_reg};
 
 use std::marker::Model;
 
@@ -43,8 +43,7 @@ impl Model for Reg {
 
 impl Reg {
     ghost use Rattle.std.specs.Prelude.{◌<◌};
-    ghost use Rattle.s66_isa.specs.declared.reg.TheConstants.{REGISTER_COUNT};
-    ghost use Rattle.s66_isa.specs.Registers.{index_of, register_at};
+    ghost use Rattle.s66_isa.specs.{REGISTER_COUNT, index_of, register_at};
 
     /// The register of a bank and a digit.
     pub fn new(bank: Bank, digit: u8) -> Reg

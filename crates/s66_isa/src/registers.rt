@@ -14,9 +14,8 @@ pub struct Registers {
 
 impl Registers {
     ghost use Rattle.std.specs.Prelude.{◌≡◌, ◌||◌, [], ◌∷◌, IfSome, IfNone};
-    ghost use Rattle.s66_isa.specs.Lists.{some_of};
-    ghost use Rattle.s66_isa.specs.Table.{Reg, same_reg, has_reg};
-    ghost use Rattle.s66_isa.specs.Registers.{registers_in};
+    ghost use Rattle.s66_isa.specs.{some_of, same_reg, has_reg, registers_in};
+    ghost use Rattle.s66_isa.specs.Table.{Reg};
 
     /// No register.
     pub fn empty() -> Registers

@@ -1,7 +1,7 @@
 //! The row of an instruction: all that timing under a profile reads of it, looked up once and kept.
 
 ghost use Rattle.std.specs.Prelude.{◌≡◌};
-ghost use Rattle.s66_isa.specs.Table.{row};
+ghost use Rattle.s66_isa.specs.{row};
 
 use crate::instr::{Instr, Kind, Memory};
 use crate::profile::Profile;

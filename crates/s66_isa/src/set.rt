@@ -1,9 +1,7 @@
 //! A set of a block's instruction numbers, as two words of 64 bits.
 
 ghost use Rattle.std.specs.Prelude.{ℕ, ◌≡◌, ◌≤◌, ◌==◌, ◌||◌, ◌&&◌, not, ◌↔◌, IsTrue, true, [], ◌∷◌, IfSome, IfNone, length};
-ghost use Rattle.s66_isa.specs.declared.limits.TheConstants.{BLOCK_LIMIT};
-ghost use Rattle.s66_isa.specs.Lists.{has, rising};
-ghost use Rattle.s66_isa.specs.Members.{numbers_in};
+ghost use Rattle.s66_isa.specs.{BLOCK_LIMIT, has, rising, numbers_in};
 
 use crate::limits::BLOCK_LIMIT;
 use arrayvec::ArrayVec;

@@ -1,5 +1,5 @@
 use Rattle.std.proofs.Common.{◌≡◌, drop}
-use Rattle.s66_isa.specs.Table.{has_reg}
+use Rattle.s66_isa.specs.{has_reg}
 use Rattle.s66_isa.proofs.reg.has_register.Given as goal
 
 abbrev pub invariant-loop-other : goal.invariant-loop-other

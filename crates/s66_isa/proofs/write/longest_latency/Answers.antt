@@ -1,9 +1,8 @@
 use Rattle.std.proofs.Common.{◌≡◌, ◌∙◌, [], ap, sym, arith, inl, inr}
-use Rattle.s66_isa.specs.declared.instr.Memory.{Memory}
-use Rattle.s66_isa.specs.Table.{loaded_registers, memory_of}
+use Rattle.s66_isa.specs.{Memory, loaded_registers, memory_of}
 use Rattle.s66_isa.proofs.Writes.{loaded-latency, unloaded-latency}
-use Rattle.s66_isa.proofs.write.longest_latency.Goals as goal
 use Rattle.s66_isa.proofs.write.longest_latency.Goals.{In-None}
+use Rattle.s66_isa.proofs.write.longest_latency.Goals as goal
 
 pub returns-in-Load-clause-value : goal.returns-in-Load-clause-value
 returns-in-Load-clause-value c =

@@ -1,10 +1,9 @@
-use Rattle.std.proofs.Common.{◌≡◌, ◌≤◌, ◌∙◌, ℕ, List, ap, sym, map, subst}
-use Rattle.std.proofs.lemmas.List.{take_all}
-use Rattle.s66_isa.specs.Lists.{greatest}
-use Rattle.s66_isa.specs.Table.{Reg, register_latency, writes_of}
+use Rattle.std.proofs.Common.{◌≡◌, ◌≤◌, ◌∙◌, ℕ, List, ap, sym, map, subst, take_all}
+use Rattle.s66_isa.specs.{greatest, register_latency, writes_of}
+use Rattle.s66_isa.specs.Table.{Reg}
 use Rattle.s66_isa.proofs.Writes.{row-writes, writes-most}
-use Rattle.s66_isa.proofs.instr.Instr.writes.Goals as goal
 use Rattle.s66_isa.proofs.instr.Instr.writes.Goals.{After-loop-write}
+use Rattle.s66_isa.proofs.instr.Instr.writes.Goals as goal
 
 made : (c : After-loop-write) → c.loop-write.pairs.items ≡ writes_of c.args.profile.now c.args.self.now
 made c =

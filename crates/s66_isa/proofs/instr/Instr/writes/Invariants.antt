@@ -1,5 +1,5 @@
 use Rattle.std.proofs.Common.{◌≡◌, map, take}
-use Rattle.s66_isa.specs.Table.{register_latency}
+use Rattle.s66_isa.specs.{register_latency}
 use Rattle.s66_isa.proofs.instr.Instr.writes.Given as goal
 
 abbrev pub invariant-loop-write : goal.invariant-loop-write

@@ -1,5 +1,5 @@
 use Rattle.std.proofs.Common.{◌-◌}
-use Rattle.s66_isa.specs.Table.{entries}
+use Rattle.s66_isa.specs.{entries}
 use Rattle.s66_isa.proofs.Profiles.{entries-in-range}
 use Rattle.s66_isa.proofs.profile.Profile.entries.Goals as goal
 

@@ -1,7 +1,7 @@
 use Rattle.std.proofs.Common.{◌++◌, ◌∷◌, ◌||◌, [], ap, sym, ◌∙◌, take}
 use Rattle.std.proofs.lemmas.List.{take_more}
 use Rattle.std.proofs.Math.Bool.{or_comm, or-false}
-use Rattle.s66_isa.specs.Table.{same_reg, has_reg}
+use Rattle.s66_isa.specs.{same_reg, has_reg}
 use Rattle.s66_isa.proofs.SameRegister.{has_reg-append}
 use Rattle.s66_isa.proofs.registers.Registers.of.Goals as goal
 

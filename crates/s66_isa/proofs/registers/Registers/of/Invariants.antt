@@ -1,6 +1,6 @@
 use Rattle.std.proofs.Common.{◌≡◌, take}
-use Rattle.s66_isa.specs.Table.{Reg, has_reg}
-use Rattle.s66_isa.specs.Registers.{registers_in}
+use Rattle.s66_isa.specs.Table.{Reg}
+use Rattle.s66_isa.specs.{has_reg, registers_in}
 use Rattle.s66_isa.proofs.registers.Registers.of.Given as goal
 
 abbrev pub invariant-loop-register : goal.invariant-loop-register

@@ -1,4 +1,4 @@
-use Rattle.s66_isa.specs.Table.{row}
+use Rattle.s66_isa.specs.{row}
 use Rattle.s66_isa.proofs.GoodRows.{row-good}
 use Rattle.s66_isa.proofs.row.Row.of.Goals as goal
 

@@ -1,7 +1,5 @@
 use Rattle.std.proofs.Common.{ap, refl, eqb-true, eq-eqb, arith}
-use Rattle.s66_isa.specs.Members.{numbers_in}
-use Rattle.s66_isa.specs.Lists.{has}
-use Rattle.s66_isa.specs.declared.set.Set.{Set}
+use Rattle.s66_isa.specs.{numbers_in, has, Set}
 use Rattle.s66_isa.proofs.SetBits.{alike-low, alike-high}
 use Rattle.s66_isa.proofs.set.Set.is_same.Goals as goal
 

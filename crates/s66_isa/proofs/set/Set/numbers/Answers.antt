@@ -1,5 +1,5 @@
 use Rattle.std.proofs.Common.{ℕ, suc, ◌≡◌, List, ◌++◌, length, ap, arith, length-append}
-use Rattle.s66_isa.specs.Members.{numbers_in}
+use Rattle.s66_isa.specs.{numbers_in}
 use Rattle.s66_isa.proofs.Sets.{numbers_in-few}
 use Rattle.s66_isa.proofs.set.Set.numbers.Goals as goal
 

@@ -1,5 +1,5 @@
 use Rattle.std.proofs.Common.{◌≡◌, ◌++◌, length}
-use Rattle.s66_isa.specs.Members.{numbers_in}
+use Rattle.s66_isa.specs.{numbers_in}
 use Rattle.s66_isa.proofs.set.Set.numbers.Given as goal
 
 abbrev pub invariant-loop-number : goal.invariant-loop-number

@@ -1,5 +1,5 @@
 use Rattle.std.proofs.Common.{◌∙◌, ◌≡◌, ◌+◌, ◌||◌, true, refl, eqb, ap, sym, arith}
-use Rattle.s66_isa.specs.Lists.{has}
+use Rattle.s66_isa.specs.{has}
 use Rattle.s66_isa.proofs.Sets.{within, within-none, within-push, filter-every, numbers_in-filter}
 use Rattle.s66_isa.proofs.set.Set.up_to.Goals as goal
 

@@ -1,6 +1,5 @@
 use Rattle.std.proofs.Common.{ℕ, ◌≡◌, ◌+◌, true}
-use Rattle.s66_isa.specs.Lists.{has}
-use Rattle.s66_isa.specs.Members.{numbers_in}
+use Rattle.s66_isa.specs.{has, numbers_in}
 use Rattle.s66_isa.proofs.Sets.{within}
 use Rattle.s66_isa.proofs.set.Set.up_to.Given as goal
 
