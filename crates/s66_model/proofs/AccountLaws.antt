@@ -1,16 +1,14 @@
 -- What an entry more makes of the workers' accounts, and that a seat goes on agreeing with its ledger.
-use Rattle.std.proofs.Common.{ℕ, zero, suc, ◌+◌, ◌-◌, ◌≤◌, ◌<◌, ◌≡◌, ◌≢◌, Bool, true, false, cond, List, [], ◌∷◌, ◌++◌, length, map, get_or, refl, sym, ap, ap₂, arith, eqb, ◌∙◌, Some, None, length-append, not}
-use Rattle.std.proofs.lemmas.Bool.{eq-eqb, ne_eqb}
-use Rattle.std.proofs.lemmas.List.{append-nil, length-map, get_or-map}
+use Rattle.std.proofs.Common.{ℕ, zero, suc, ◌+◌, ◌-◌, ◌≤◌, ◌<◌, ◌≡◌, ◌≢◌, Bool, true, false, cond, List, [], ◌∷◌, ◌++◌, length, map, get_or, refl, sym, ap, ap₂, arith, eqb, ◌∙◌, Some, None}
+use Rattle.std.proofs.Common.{length-append, not, eq-eqb, ne_eqb, append-nil}
+use Rattle.std.proofs.lemmas.List.{length-map, get_or-map}
 use Rattle.std.proofs.lemmas.List.Elements.{filter-append}
 use Rattle.std.proofs.lemmas.List.Filters.{length-filter_both}
-use Rattle.s66_isa.specs.Lists.{weigh, rising}
+use Rattle.s66_isa.specs.{weigh, rising}
 use Rattle.s66_isa.proofs.Lists.{weigh-append}
-use Rattle.s66_model.specs.declared.rule.Rule.{Rule}
-use Rattle.s66_model.specs.Timing.{Problem}
-use Rattle.s66_model.specs.LedgerRuns.{Ledger, Event, Grant, Claim, Graft, Offer, Back, Retire, Reply, Granted, Claimed, Taken, NotOut, OtherPrefix, OverAllowance, Lower, NotLower, OtherBlock, Returned, Retired, worker, opening, best_time, Moves, Step, Run}
-use Rattle.s66_model.specs.Recorded.{spends, spent_by}
-use Rattle.s66_model.specs.Accounts.{brief, entries_of, last_brief, Account, account_of, counted, no_account, Summary, summary_of, account_at, SeatRecord, Agrees, opened, least_after, after_event, after_reading}
+use Rattle.s66_model.specs.{Rule, Problem, Ledger, Event, Grant, Claim, Graft, Offer, Back, Retire, Reply, Granted, Claimed, Taken, NotOut, OtherPrefix, OverAllowance, Lower, NotLower, OtherBlock}
+use Rattle.s66_model.specs.{Returned, Retired, worker, opening, best_time, Moves, Step, Run, spends, spent_by, brief, entries_of, last_brief, Account, account_of, counted, no_account, Summary}
+use Rattle.s66_model.specs.{summary_of, account_at, SeatRecord, Agrees, opened, least_after, after_event, after_reading}
 use Rattle.s66_model.proofs.Beginnings.{length-rising}
 use Rattle.s66_model.proofs.Histories.{history-spent}
 use Rattle.s66_model.proofs.LedgerRuns.{step-falls}

@@ -1,15 +1,10 @@
 -- The tree of an answer shows its bound.
 use Rattle.std.proofs.Common.{ℕ, ◌≤◌, ◌≡◌, true, List, [], ◌∷◌, ◌++◌, refl, sym, arith, inl, inr, subst}
-use Rattle.s66_isa.specs.Lists.{Among}
-use Rattle.s66_model.specs.declared.rule.Rule.{Rule}
-use Rattle.s66_model.specs.Timing.{Problem}
-use Rattle.s66_model.specs.LegalOrder.{is_ready, ready, IsBeginning}
-use Rattle.s66_model.specs.BestAndBound.{IsBound, IsBest}
-use Rattle.s66_model.specs.Leaves.{value, MayStand, floor}
-use Rattle.s66_model.specs.Trees.{Siblings, NoMore, Unsplit, Split, Tree, Alone, Parted, SiblingsHold, TreeHolds, sibling_values, tree_values}
-use Rattle.s66_model.specs.DominatedLeaves.{Ending, Bounding, Dominated, Factual, EndingShows, ShowsBy}
-use Rattle.s66_model.specs.Answer.{Answer, MayEnd, ending_values, IsAnswer, IsBestAnswer}
+use Rattle.s66_isa.specs.{Among}
 use Rattle.s66_isa.proofs.Lists.{least-le, among-front, among-rest}
+use Rattle.s66_model.specs.{Rule, Problem, is_ready, ready, IsBeginning, IsBound, IsBest, value, MayStand, floor, Siblings, NoMore, Unsplit, Split, Tree, Alone, Parted, SiblingsHold, TreeHolds}
+use Rattle.s66_model.specs.{sibling_values, tree_values, Ending, Bounding, Dominated, Factual, EndingShows, ShowsBy, MayEnd, ending_values, IsAnswer, IsBestAnswer}
+use Rattle.s66_model.specs.Answer.{Answer}
 use Rattle.s66_model.proofs.Remaining.{ready-among, step-begins}
 use Rattle.s66_model.proofs.DominatedTrees.{shown-below}
 

@@ -1,17 +1,13 @@
 -- A chain is a lower bound.
-use Rattle.std.proofs.Common.{ℕ, ◌+◌, ◌≤◌, ◌<◌, ◌≡◌, Bool, true, false, cond, ◌||◌, max, List, [], ◌∷◌, ◌++◌, refl, sym, ap, arith, inl, inr, ltb, eqb, map, ◌∙◌, ◌⊎◌, subst}
-use Rattle.std.proofs.lemmas.Bool.{cond-true, cond-false, or_cases, or_parts, or_left, or_right, and_parts, and_from, eqb-true, eqb-false, ltb-true, lt-ltb, cases_Bool}
-use Rattle.s66_isa.specs.declared.instr.Instr.{Instr}
-use Rattle.s66_isa.specs.declared.profile.Profile.{Profile}
-use Rattle.s66_isa.specs.declared.reg.Reg.{Reg}
-use Rattle.s66_isa.specs.Lists.{greatest, some_of, has}
-use Rattle.s66_isa.specs.Table.{Row, Write, row, instr_at, same_reg, has_reg, memory_of, memory_pair, reads_of, results_of, held_registers, loaded_registers, hold_of}
-use Rattle.s66_model.specs.Dependence.{share, conflict}
-use Rattle.s66_model.specs.Timing.{Problem, Point, ResultAt, row_at, done_at, writes_reg, done_of, last_done, end_of, issue_of, memory_wait, start_of, readers_wait, result_at, point, point_of, points_after, points_of, total_of}
-use Rattle.s66_model.specs.LegalOrder.{is_ready, GoesOn, IsBeginning, Completes, IsOrder}
-use Rattle.s66_model.specs.Leaves.{tail, uses, link, head, walk, chain_value, IsWalk, IsChain}
+use Rattle.std.proofs.Common.{ℕ, ◌+◌, ◌≤◌, ◌<◌, ◌≡◌, Bool, true, false, cond, ◌||◌, max, List, [], ◌∷◌, ◌++◌, refl, sym, ap, arith, inl, inr, ltb, eqb, map, ◌∙◌, ◌⊎◌, subst, eqb-true, ltb-true}
+use Rattle.std.proofs.Common.{lt-ltb}
+use Rattle.std.proofs.lemmas.Bool.{cond-true, cond-false, or_cases, or_parts, or_left, or_right, and_parts, and_from, eqb-false, cases_Bool}
+use Rattle.s66_isa.specs.{Instr, Profile, Reg, greatest, some_of, has, Row, Write, row, instr_at, same_reg, has_reg, memory_of, memory_pair, reads_of, results_of, held_registers, loaded_registers}
+use Rattle.s66_isa.specs.{hold_of}
 use Rattle.s66_isa.proofs.Lists.{cases_le, greatest-le-greatest, greatest-le, greatest-shift}
 use Rattle.s66_isa.proofs.SameRegister.{same_reg-true, same_reg-self, has_reg-le, has_reg-from}
+use Rattle.s66_model.specs.{share, conflict, Problem, Point, ResultAt, row_at, done_at, writes_reg, done_of, last_done, end_of, issue_of, memory_wait, start_of, readers_wait, result_at, point}
+use Rattle.s66_model.specs.{point_of, points_after, points_of, total_of, is_ready, GoesOn, IsBeginning, Completes, IsOrder, tail, uses, link, head, walk, chain_value, IsWalk, IsChain}
 use Rattle.s66_model.proofs.LegalOrders.{GoesOn-join, ready-parts, depends-from, needs-each}
 use Rattle.s66_model.proofs.Remaining.{remaining-parts, order-has}
 use Rattle.s66_model.proofs.Issue.{issue-is}

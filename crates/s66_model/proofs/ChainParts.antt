@@ -1,15 +1,10 @@
 -- The greatest chain starts at the next slot, or when a register is done that is late.
 use Rattle.std.proofs.Common.{ℕ, ◌+◌, ◌≤◌, ◌<◌, ◌≡◌, true, cond, max, List, [], ◌∷◌, length, arith, inl, inr}
 use Rattle.std.proofs.lemmas.Bool.{or_cases, or_left, or_right, cond_both, cond-true}
-use Rattle.s66_isa.specs.declared.reg.Reg.{Reg}
-use Rattle.s66_isa.specs.Lists.{greatest, some_of, Among}
-use Rattle.s66_isa.specs.Table.{Row, Write, has_reg, same_reg}
-use Rattle.s66_model.specs.Timing.{Problem, Point, row_at, points_of, next, done_of}
-use Rattle.s66_model.specs.LegalOrder.{is_remaining, remaining, IsBeginning}
-use Rattle.s66_model.specs.Leaves.{uses, head, chain}
-use Rattle.s66_model.specs.Tails.{longest_tail, tail_remaining, chain_by, HasLate}
+use Rattle.s66_isa.specs.{Reg, greatest, some_of, Among, Row, Write, has_reg, same_reg}
 use Rattle.s66_isa.proofs.Lists.{cases_le, le-greatest, greatest-le, greatest-le-greatest, greatest-plus, among-some}
 use Rattle.s66_isa.proofs.SameRegister.{same_reg-self, has_reg-le}
+use Rattle.s66_model.specs.{Problem, Point, row_at, points_of, next, done_of, is_remaining, remaining, IsBeginning, uses, head, chain, longest_tail, tail_remaining, chain_by, HasLate}
 use Rattle.s66_model.proofs.Remaining.{among-remaining}
 use Rattle.s66_model.proofs.ChainBound.{writes-le}
 use Rattle.s66_model.proofs.Longest.{chain-static}

@@ -1,6 +1,6 @@
 -- The order of a dictionary: each list is no later than itself, it passes on, and of two lists one is later.
 use Rattle.std.proofs.Common.{ℕ, ◌≡◌, List, [], ◌∷◌, refl, ap₂, arith, inl, inr}
-use Rattle.s66_model.specs.Floor.{InDictionaryOrder}
+use Rattle.s66_model.specs.{InDictionaryOrder}
 
 pub IsNoLater-itself : (ns : List ℕ) → InDictionaryOrder ns ns
 IsNoLater-itself [] = tt

@@ -1,16 +1,10 @@
 -- What a tree with dominated leaves shows is a lower bound, by any rule and whatever closes its other prefixes; a tree of leaves shows the same by each.
 use Rattle.std.proofs.Common.{ℕ, zero, suc, ◌+◌, ◌≤◌, ◌<◌, ◌≡◌, ◌⊎◌, List, [], ◌∷◌, ◌++◌, length, refl, sym, ap, arith, inl, inr, subst, append_assoc, ◌∙◌, Bool, true, false, Option, Some, None}
-use Rattle.s66_isa.specs.declared.instr.Instr.{Instr}
+use Rattle.s66_isa.specs.{Instr}
 use Rattle.s66_isa.proofs.Lists.{cases_le}
-use Rattle.s66_model.specs.declared.rule.Rule.{Rule}
-use Rattle.s66_model.specs.declared.rule.Rule.TheVariants.{NoneNamed, WrittenEarlier, ClampedStanding}
-use Rattle.s66_model.specs.Timing.{Problem, total_of, points_of, next}
-use Rattle.s66_model.specs.LegalOrder.{IsLegal, Completes, IsBeginning, IsOrder}
-use Rattle.s66_model.specs.Leaves.{Leaf}
-use Rattle.s66_model.specs.Trees.{Siblings, NoMore, Unsplit, Split, Tree, Alone, Parted, Vertex, AtTerminal, AtSplit, SiblingsHold, TreeHolds, LeafShows, Shows}
-use Rattle.s66_model.specs.Dominance.{IsNoWorse, clamp_at}
-use Rattle.s66_model.specs.DominatedLeaves.{Ending, Bounding, Dominated, Factual, IsEarlier, is_standing, may_be_named, DominatesByRule, EndingShows, ShowsBy, siblings_bounding, tree_bounding}
-use Rattle.s66_model.specs.NodeNames.{node_named, is_node}
+use Rattle.s66_model.specs.{Rule, NoneNamed, WrittenEarlier, ClampedStanding, Problem, total_of, points_of, next, IsLegal, Completes, IsBeginning, IsOrder, Leaf, Siblings, NoMore, Unsplit, Split}
+use Rattle.s66_model.specs.{Tree, Alone, Parted, Vertex, AtTerminal, AtSplit, SiblingsHold, TreeHolds, LeafShows, Shows, IsNoWorse, clamp_at, Ending, Bounding, Dominated, Factual, IsEarlier}
+use Rattle.s66_model.specs.{is_standing, may_be_named, DominatesByRule, EndingShows, ShowsBy, siblings_bounding, tree_bounding, node_named, is_node}
 use Rattle.s66_model.proofs.LegalOrders.{GoesOn-join, order-legal, legal-order}
 use Rattle.s66_model.proofs.Remaining.{legal-parts}
 use Rattle.s66_model.proofs.Trees.{leaf-sound}

@@ -1,17 +1,11 @@
 -- Dominance lasts when both beginnings go on with the same numbers, so the dominating one is no worse.
-use Rattle.std.proofs.Common.{ℕ, ◌+◌, ◌≤◌, ◌≡◌, cond, ◌&&◌, true, max, min, List, [], ◌∷◌, ◌++◌, length, refl, arith, inl, inr, ltb, ◌∙◌, append_assoc}
-use Rattle.std.proofs.lemmas.Bool.{cond-true, eq-eqb, lt-ltb}
-use Rattle.std.proofs.lemmas.List.{append-nil}
-use Rattle.s66_isa.specs.declared.instr.Instr.{Instr}
-use Rattle.s66_isa.specs.declared.instr.Kind.{Kind}
-use Rattle.s66_isa.specs.declared.reg.Reg.{Reg}
-use Rattle.s66_isa.specs.Lists.{greatest, tally}
-use Rattle.s66_isa.specs.Table.{same_reg, same_kind, kind_number}
+use Rattle.std.proofs.Common.{ℕ, ◌+◌, ◌≤◌, ◌≡◌, cond, ◌&&◌, true, max, min, List, [], ◌∷◌, ◌++◌, length, refl, arith, inl, inr, ltb, ◌∙◌, append_assoc, eq-eqb, lt-ltb, append-nil}
+use Rattle.std.proofs.lemmas.Bool.{cond-true}
+use Rattle.s66_isa.specs.{Instr, Kind, Reg, greatest, tally, same_reg, same_kind, kind_number}
 use Rattle.s66_isa.proofs.Lists.{cases_le, ones}
 use Rattle.s66_isa.proofs.SameRegister.{same_reg-self}
-use Rattle.s66_model.specs.Timing.{Problem, ResultAt, Point, copies, next, total, total_of, done_of, busy_at, point_of, points_of}
-use Rattle.s66_model.specs.LegalOrder.{is_ready, GoesOn, IsBeginning}
-use Rattle.s66_model.specs.Dominance.{free_times, Clamp, IsNoLater, IsSameSet, DominatesBy, no_clamp, Dominates, clamp_at, DominatesClamped, IsNoWorse}
+use Rattle.s66_model.specs.{Problem, ResultAt, Point, copies, next, total, total_of, done_of, busy_at, point_of, points_of, is_ready, GoesOn, IsBeginning, free_times, Clamp, IsNoLater, IsSameSet}
+use Rattle.s66_model.specs.{DominatesBy, no_clamp, Dominates, clamp_at, DominatesClamped, IsNoWorse}
 use Rattle.s66_model.proofs.SameSet.{is_ready-same, sum_remaining-same}
 use Rattle.s66_model.proofs.LegalOrders.{has-push, sum_remaining-run, order-legal}
 use Rattle.s66_model.proofs.Remaining.{step-begins, legal-parts}

@@ -1,9 +1,7 @@
 -- Every order takes at least a time if each either does or has an earlier one that takes less than it.
 use Rattle.std.proofs.Common.{ℕ, zero, suc, ◌+◌, ◌*◌, ◌-◌, ◌≤◌, ◌<◌, ◌≡◌, ◌⊎◌, List, [], ◌∷◌, ◌++◌, length, sym, ap, arith, inl, inr, ◌∙◌}
-use Rattle.s66_isa.specs.declared.instr.Instr.{Instr}
-use Rattle.s66_model.specs.Timing.{Problem, total_of}
-use Rattle.s66_model.specs.LegalOrder.{GoesOn, IsOrder}
-use Rattle.s66_model.specs.DominatedLeaves.{IsEarlier}
+use Rattle.s66_isa.specs.{Instr}
+use Rattle.s66_model.specs.{Problem, total_of, GoesOn, IsOrder, IsEarlier}
 use Rattle.s66_model.proofs.LegalOrders.{ready-parts}
 
 -- AN ORDER AS A NUMBER, by digits below a base

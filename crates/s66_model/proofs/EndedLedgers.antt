@@ -1,23 +1,13 @@
 -- If the steps of a search have ended, the answer that the last state is finishes the ledger with which they began.
 use Rattle.std.proofs.Common.{ℕ, ◌≤◌, ◌<◌, ◌≡◌, ◌⊎◌, Bool, true, false, cond, List, [], ◌∷◌, ◌++◌, length, refl, sym, ap, arith, inl, inr, subst, ◌∙◌, Some, None}
 use Rattle.std.proofs.lemmas.Bool.{and_left, cases_lt}
-use Rattle.s66_isa.specs.Lists.{tally, least, Among}
-use Rattle.s66_isa.specs.Table.{numbers}
-use Rattle.s66_model.specs.declared.rule.Rule.{Rule}
-use Rattle.s66_model.specs.Timing.{Problem}
-use Rattle.s66_model.specs.LegalOrder.{IsBeginning, IsComplete}
-use Rattle.s66_model.specs.BestAndBound.{IsBound}
-use Rattle.s66_model.specs.Leaves.{Leaf, Whole, value, floor, floor_value, MayStand}
-use Rattle.s66_model.specs.Trees.{Siblings, NoMore, Unsplit, Split, Tree, Alone, Parted, SiblingsHold, TreeHolds, sibling_values, tree_values}
-use Rattle.s66_model.specs.DominatedLeaves.{Ending, Bounding, Dominated, Factual}
-use Rattle.s66_model.specs.Answer.{source_time, MayEnd, ending_values, IsAnswer}
-use Rattle.s66_model.specs.LedgerRuns.{Ledger, Node, State, Open, Out, Cut, Closed, is_cut, is_cut_state, is_live, is_live_state, node_at, no_node, with_state, root_state, new_nodes, best_time, opening, Event, Grant, Claim, Graft, Offer, Back, Retire, Reply, Granted, Claimed, Taken, NotOut, OtherPrefix, OverAllowance, Lower, NotLower, OtherBlock, Returned, Retired, Moves, Run}
-use Rattle.s66_model.specs.Coverage.{ClosedHolds, NodeHolds, NodesHold, Covers, live_floors, bound_of, IsFinished}
-use Rattle.s66_model.specs.NodeTable.{stands_at, is_cut_at, IsTable}
-use Rattle.s66_model.specs.NodeTree.{state_ending, ending_at, node_tree}
-use Rattle.s66_model.specs.Ended.{IsEnded, ended_answer}
-use Rattle.s66_model.specs.Reached.{IsReached}
+use Rattle.s66_isa.specs.{tally, least, Among, numbers}
 use Rattle.s66_isa.proofs.Lists.{tally-append, tally-set, least-le, among-rest}
+use Rattle.s66_model.specs.{Rule, Problem, IsBeginning, IsComplete, IsBound, Leaf, Whole, value, floor, floor_value, MayStand, Siblings, NoMore, Unsplit, Split, Tree, Alone, Parted, SiblingsHold}
+use Rattle.s66_model.specs.{TreeHolds, sibling_values, tree_values, Ending, Bounding, Dominated, Factual, source_time, MayEnd, ending_values, IsAnswer, Ledger, Node, State, Open, Out, Cut, Closed}
+use Rattle.s66_model.specs.{is_cut, is_cut_state, is_live, is_live_state, node_at, no_node, with_state, root_state, new_nodes, best_time, opening, Event, Grant, Claim, Graft, Offer, Back, Retire}
+use Rattle.s66_model.specs.{Reply, Granted, Claimed, Taken, NotOut, OtherPrefix, OverAllowance, Lower, NotLower, OtherBlock, Returned, Retired, Moves, Run, ClosedHolds, NodeHolds, NodesHold, Covers}
+use Rattle.s66_model.specs.{live_floors, bound_of, IsFinished, stands_at, is_cut_at, IsTable, state_ending, ending_at, node_tree, IsEnded, ended_answer, IsReached}
 use Rattle.s66_model.proofs.Floors.{floor-stands}
 use Rattle.s66_model.proofs.LedgerRuns.{run-falls}
 use Rattle.s66_model.proofs.Histories.{run-join, reached-covers, reached-table, reached-source}

@@ -2,15 +2,10 @@
 use Rattle.std.proofs.Common.{◌≡◌, true, false, true≢false, cond, ◌||◌, List, [], ◌∷◌, ◌++◌, refl, ap, sym, ◌∙◌, inl, inr}
 use Rattle.std.proofs.lemmas.Bool.{cases_Bool, or_parts, or_left, or_right}
 use Rattle.std.proofs.Math.Bool.{and_comm, or_comm}
-use Rattle.s66_isa.specs.declared.instr.Instr.{Instr}
-use Rattle.s66_isa.specs.declared.instr.Memory.{Memory}
-use Rattle.s66_isa.specs.declared.instr.Memory.TheVariants.{None, Load, Store}
-use Rattle.s66_isa.specs.declared.reg.Reg.{Reg}
-use Rattle.s66_isa.specs.Table.{same_reg, has_reg, x_reg, operands_of, stored_registers, reads_of, held_registers, results_of, memory_of, touches, stores, memory_pair}
-use Rattle.s66_model.specs.Dependence.{share, conflict}
-use Rattle.s66_model.specs.Meaning.{Term, Terms, Storage, Stored, Operation, Contents, register_value, values_of, results_computed, words_loaded, writes, after_writes, address_of, storage_after, after}
-use Rattle.s66_isa.proofs.SameRegister.{same_reg-self}
-use Rattle.s66_isa.proofs.SameRegister.{has_reg-reads}
+use Rattle.s66_isa.specs.{Instr, Memory, None, Load, Store, Reg, same_reg, has_reg, x_reg, operands_of, stored_registers, reads_of, held_registers, results_of, memory_of, touches, stores, memory_pair}
+use Rattle.s66_isa.proofs.SameRegister.{same_reg-self, has_reg-reads}
+use Rattle.s66_model.specs.{share, conflict, Term, Terms, Storage, Stored, Operation, Contents, register_value, values_of, results_computed, words_loaded, writes, after_writes, address_of}
+use Rattle.s66_model.specs.{storage_after, after}
 use Rattle.s66_model.proofs.Registers.{share-none, share-none_back, writes-other, value-other, values-other}
 
 -- contents are equal if all registers and the storage are

@@ -1,15 +1,11 @@
 -- A floor by its parts, each by words that are known before anything is placed, and how great they are at most.
-use Rattle.std.proofs.Common.{ℕ, ◌+◌, ◌-◌, ◌*◌, ◌≤◌, ◌<◌, ◌≡◌, ◌≢◌, Bool, true, false, not, cond, max, List, [], ◌∷◌, ◌++◌, length, get_or, refl, sym, ap, arith, inl, inr, ltb, ◌∙◌}
-use Rattle.std.proofs.lemmas.Bool.{cond-true, cond-false, cases_Bool, le-leb, ltb-true, ltb-false}
-use Rattle.s66_isa.specs.declared.limits.TheConstants.{BLOCK_LIMIT}
-use Rattle.s66_isa.specs.declared.reg.Reg.{Reg}
-use Rattle.s66_isa.specs.Lists.{greatest, least, weigh, has, Among}
-use Rattle.s66_isa.specs.Table.{numbers}
-use Rattle.s66_model.specs.Timing.{Problem, row_at, points_of, next, done_of}
-use Rattle.s66_model.specs.LegalOrder.{is_remaining, remaining, sum_remaining, IsBeginning, IsIncomplete}
-use Rattle.s66_model.specs.Leaves.{Leaf, Chain, uses, head, chain, longest_chain, if_last, parcels, value, MayStand, first_greatest, after_chain, floor_value}
-use Rattle.s66_model.specs.Tails.{longest_tail, chain_by, spare, HasWords}
+use Rattle.std.proofs.Common.{ℕ, ◌+◌, ◌-◌, ◌*◌, ◌≤◌, ◌<◌, ◌≡◌, ◌≢◌, Bool, true, false, not, cond, max, List, [], ◌∷◌, ◌++◌, length, get_or, refl, sym, ap, arith, inl, inr, ltb, ◌∙◌, le-leb, ltb-true}
+use Rattle.std.proofs.Common.{ltb-false}
+use Rattle.std.proofs.lemmas.Bool.{cond-true, cond-false, cases_Bool}
+use Rattle.s66_isa.specs.{BLOCK_LIMIT, Reg, greatest, least, weigh, has, Among, numbers}
 use Rattle.s66_isa.proofs.Lists.{le-greatest, greatest-le, le-weigh, weigh-same, weigh-filter, least-plus, among-some, among-rising}
+use Rattle.s66_model.specs.{Problem, row_at, points_of, next, done_of, is_remaining, remaining, sum_remaining, IsBeginning, IsIncomplete, Leaf, Chain, uses, head, chain, longest_chain, if_last}
+use Rattle.s66_model.specs.{parcels, value, MayStand, first_greatest, after_chain, floor_value, longest_tail, chain_by, spare, HasWords}
 use Rattle.s66_model.proofs.Growth.{total-le}
 use Rattle.s66_model.proofs.PointTimes.{good-at}
 use Rattle.s66_model.proofs.Remaining.{among-remaining, remaining-among, remaining-parts, legal-parts}

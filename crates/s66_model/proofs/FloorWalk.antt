@@ -1,14 +1,10 @@
 -- The floor by a walk over its leaves, which keeps the first greatest so far; and by the sorts of leaves.
-use Rattle.std.proofs.Common.{ℕ, ◌+◌, ◌≤◌, ◌<◌, ◌≡◌, ◌≢◌, max, List, [], ◌∷◌, ◌++◌, map, drop, get_or, length, refl, ap, arith, ltb, ◌∙◌}
-use Rattle.std.proofs.lemmas.Bool.{ne_eqb, lt-ltb, le-ltb, cond-true, cond-false}
+use Rattle.std.proofs.Common.{ℕ, ◌+◌, ◌≤◌, ◌<◌, ◌≡◌, ◌≢◌, max, List, [], ◌∷◌, ◌++◌, map, drop, get_or, length, refl, ap, arith, ltb, ◌∙◌, ne_eqb, lt-ltb, le-ltb}
+use Rattle.std.proofs.lemmas.Bool.{cond-true, cond-false}
 use Rattle.std.proofs.lemmas.List.{drop_more}
-use Rattle.s66_isa.specs.declared.instr.Kind.{Kind}
-use Rattle.s66_isa.specs.Lists.{greatest}
-use Rattle.s66_isa.specs.Table.{all_kinds}
+use Rattle.s66_isa.specs.{Kind, greatest, all_kinds}
 use Rattle.s66_isa.proofs.Lists.{greatest-append}
-use Rattle.s66_model.specs.Timing.{Problem}
-use Rattle.s66_model.specs.LegalOrder.{IsBeginning, IsIncomplete}
-use Rattle.s66_model.specs.Leaves.{Leaf, Chain, Load, Parcels, value, load, parcels, chain, longest_chain, first_greatest, floor, floor_value}
+use Rattle.s66_model.specs.{Problem, IsBeginning, IsIncomplete, Leaf, Chain, Load, Parcels, value, load, parcels, chain, longest_chain, first_greatest, floor, floor_value}
 use Rattle.s66_model.proofs.FloorParts.{floor-parts}
 
 -- ONE LEAF FURTHER

@@ -1,15 +1,10 @@
 -- The floor of a beginning: it may stand there, is the greatest leaf that may, and of equal ones goes first.
-use Rattle.std.proofs.Common.{ℕ, zero, suc, ◌≤◌, ◌<◌, ◌≡◌, ◌≢◌, true, cond, List, [], ◌∷◌, ◌++◌, length, length-append, refl, sym, subst, ap, arith, inl, inr, ltb, get_or, ◌∙◌}
-use Rattle.std.proofs.lemmas.Bool.{ltb-true, ltb-false, eq-eqb, ne_eqb, and_parts, cond_both, cases_eq}
-use Rattle.std.proofs.lemmas.List.{append-nil}
-use Rattle.s66_isa.specs.declared.instr.Instr.{Instr}
-use Rattle.s66_isa.specs.declared.instr.Kind.{Kind}
-use Rattle.s66_isa.specs.declared.instr.Kind.TheVariants.{Boolean, Shift, Add, LongAdd, Multiply, Divide, Increment}
-use Rattle.s66_isa.specs.Table.{kind_number, all_kinds}
-use Rattle.s66_model.specs.Timing.{Problem}
-use Rattle.s66_model.specs.LegalOrder.{is_remaining, needs_met, GoesOn, IsBeginning, IsIncomplete, IsComplete}
-use Rattle.s66_model.specs.Leaves.{Leaf, Whole, Chain, Load, Parcels, value, chain_value, chain, MayStand, longest_chain, first_greatest, after_chain, floor}
-use Rattle.s66_model.specs.Floor.{InDictionaryOrder, rank, IsFloor}
+use Rattle.std.proofs.Common.{ℕ, zero, suc, ◌≤◌, ◌<◌, ◌≡◌, ◌≢◌, true, cond, List, [], ◌∷◌, ◌++◌, length, length-append, refl, sym, subst, ap, arith, inl, inr, ltb, get_or, ◌∙◌, ltb-true, ltb-false}
+use Rattle.std.proofs.Common.{eq-eqb, ne_eqb, append-nil}
+use Rattle.std.proofs.lemmas.Bool.{and_parts, cond_both, cases_eq}
+use Rattle.s66_isa.specs.{Instr, Kind, Boolean, Shift, Add, LongAdd, Multiply, Divide, Increment, kind_number, all_kinds}
+use Rattle.s66_model.specs.{Problem, is_remaining, needs_met, GoesOn, IsBeginning, IsIncomplete, IsComplete, Leaf, Whole, Chain, Load, Parcels, value, chain_value, chain, MayStand, longest_chain}
+use Rattle.s66_model.specs.{first_greatest, after_chain, floor, InDictionaryOrder, rank, IsFloor}
 use Rattle.s66_model.proofs.LegalOrders.{legal-order, GoesOn-append}
 use Rattle.s66_model.proofs.Beginnings.{beginning-front}
 use Rattle.s66_model.proofs.LongestChain.{longest-is_chain, longest-first, chain-le}

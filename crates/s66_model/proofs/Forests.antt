@@ -1,9 +1,8 @@
 -- Trees and their vertices in preorder: from a tree to its vertices and back, and from vertices to trees and back.
-use Rattle.std.proofs.Common.{◌≡◌, ℕ, List, [], ◌∷◌, ◌++◌, refl, sym, ap, ◌∙◌, append_assoc}
-use Rattle.std.proofs.lemmas.List.{append-nil}
-use Rattle.s66_isa.specs.declared.instr.Instr.{Instr}
-use Rattle.s66_model.specs.Trees.{Tree, Alone, Parted, Siblings, NoMore, Unsplit, Split, Vertex, AtTerminal, AtSplit, SiblingsHold, TreeHolds, flat_siblings, flat}
-use Rattle.s66_model.specs.Preorder.{first_siblings, later_siblings, forest, first_tree, read_tree, SiblingsMatch, TreeMatches}
+use Rattle.std.proofs.Common.{◌≡◌, ℕ, List, [], ◌∷◌, ◌++◌, refl, sym, ap, ◌∙◌, append_assoc, append-nil}
+use Rattle.s66_isa.specs.{Instr}
+use Rattle.s66_model.specs.{Tree, Alone, Parted, Siblings, NoMore, Unsplit, Split, Vertex, AtTerminal, AtSplit, SiblingsHold, TreeHolds, flat_siblings, flat, first_siblings, later_siblings, forest}
+use Rattle.s66_model.specs.{first_tree, read_tree, SiblingsMatch, TreeMatches}
 
 module _ {M : Type 0} where
   -- FROM TREES TO VERTICES AND BACK

@@ -1,10 +1,7 @@
 -- A tree that is grown by a test is split exactly where the test says so, and has the terminal that belongs to every other prefix.
 use Rattle.std.proofs.Common.{ℕ, zero, suc, ◌+◌, ◌≤◌, ◌<◌, ◌≡◌, Bool, true, false, List, [], ◌∷◌, ◌++◌, length, refl, arith, inl, inr, length-append}
 use Rattle.std.proofs.lemmas.Bool.{cases_Bool}
-use Rattle.s66_model.specs.Timing.{Problem}
-use Rattle.s66_model.specs.LegalOrder.{ready}
-use Rattle.s66_model.specs.Trees.{Siblings, NoMore, Unsplit, Split, Tree, Alone, Parted}
-use Rattle.s66_model.specs.NodeTree.{each_sibling, grown_sibling, grown_tree}
+use Rattle.s66_model.specs.{Problem, ready, Siblings, NoMore, Unsplit, Split, Tree, Alone, Parted, each_sibling, grown_sibling, grown_tree}
 
 abbrev pub SiblingsFit : {M : Type 0} → Problem → (List ℕ → Bool) → (List ℕ → M) → List ℕ → List ℕ → Siblings M → Type 0
 SiblingsFit b is_split terminal_of prefix [] NoMore = Unit {0}

@@ -1,15 +1,12 @@
 -- Totals are small: each instruction adds at most 104 cycles, if no entry is above 100.
 use Rattle.std.proofs.Common.{length, ◌*◌, ℕ, sym, true≢false, ◌-◌, ◌+◌, ◌%◌, ◌≤◌, ◌<◌, ◌≡◌, Bool, cond, ◌&&◌, max, List, [], ◌∷◌, refl, arith, inl, inr, eqb, map, ◌⊎◌}
 use Rattle.std.proofs.lemmas.Bool.{and_parts, cond_both, cases_Bool, cond-true, cond-false}
-use Rattle.s66_isa.specs.declared.reg.Reg.{Reg}
-use Rattle.s66_isa.specs.Lists.{greatest, Among}
-use Rattle.s66_isa.specs.Table.{Row, Write, has_reg, memory_pair}
-use Rattle.s66_model.specs.Packing.{fits_at}
-use Rattle.s66_model.specs.Timing.{row_at, point_of, points_after, total_of, Problem, Point, ResultAt, done_at, done_of, last_done, writes_reg, end_of, total, parcel_of, slot_of, issue_of, start_of, readers_wait, result_at, free_after, point}
+use Rattle.s66_isa.specs.{Reg, greatest, Among, Row, Write, has_reg, memory_pair, IsInRange, held_latency}
 use Rattle.s66_isa.proofs.Lists.{greatest-le-greatest, greatest-le, greatest-shift}
-use Rattle.s66_model.proofs.Issue.{issue-late, issue-is, can_issue-is, done_of-le-total, can_issue-past}
-use Rattle.s66_isa.specs.Rows.{IsInRange, held_latency}
 use Rattle.s66_isa.proofs.GoodRows.{row-good}
+use Rattle.s66_model.specs.{fits_at, row_at, point_of, points_after, total_of, Problem, Point, ResultAt, done_at, done_of, last_done, writes_reg, end_of, total, parcel_of, slot_of, issue_of, start_of}
+use Rattle.s66_model.specs.{readers_wait, result_at, free_after, point}
+use Rattle.s66_model.proofs.Issue.{issue-late, issue-is, can_issue-is, done_of-le-total, can_issue-past}
 
 pub held-le : (ds : List ResultAt) → greatest (λ (d : ResultAt). cond d.held d.time 0) ds ≤ greatest (λ (d : ResultAt). d.time) ds
 held-le ds =

@@ -1,13 +1,10 @@
 -- When an instruction can start at the soonest, by the registers that are late.
 use Rattle.std.proofs.Common.{ℕ, ◌≤◌, ◌≡◌, cond, max, List, arith, inl, inr}
 use Rattle.std.proofs.lemmas.Bool.{cases_Bool, cond-true, cond-false}
-use Rattle.s66_isa.specs.declared.reg.Reg.{Reg}
-use Rattle.s66_isa.specs.Lists.{greatest}
+use Rattle.s66_isa.specs.{Reg, greatest}
 use Rattle.s66_isa.proofs.Lists.{cases_le, greatest-le}
 use Rattle.s66_isa.proofs.SameRegister.{has_reg-le}
-use Rattle.s66_model.specs.Timing.{Problem, row_at, points_of, next, done_of}
-use Rattle.s66_model.specs.Leaves.{uses, head}
-use Rattle.s66_model.specs.Tails.{HasLate}
+use Rattle.s66_model.specs.{Problem, row_at, points_of, next, done_of, uses, head, HasLate}
 use Rattle.s66_model.proofs.ChainParts.{used_of, used-late, used-le}
 
 -- when the register is done, if n reads or writes it

@@ -1,17 +1,10 @@
 -- Histories of the ledger: their fronts, the one state to which each leads, what they spend, and what holds of a state that is reached.
-use Rattle.std.proofs.Common.{ℕ, zero, suc, ◌+◌, ◌≤◌, ◌<◌, ◌≡◌, cond, ◌-◌, List, [], ◌∷◌, ◌++◌, length, refl, sym, ap, arith, inl, inr, eqb, subst, ◌∙◌, Some, None}
-use Rattle.std.proofs.lemmas.Bool.{eq-eqb, ne_eqb, cases_eq, cond-true, cond-false}
-use Rattle.std.proofs.lemmas.List.{length-set, length-replicate}
-use Rattle.s66_isa.specs.Lists.{weigh, rising}
-use Rattle.s66_model.specs.declared.rule.Rule.{Rule}
-use Rattle.s66_model.specs.Timing.{Problem}
-use Rattle.s66_model.specs.Trees.{splits}
-use Rattle.s66_model.specs.LedgerRuns.{Ledger, Event, Grant, Claim, Graft, Offer, Back, Retire, Reply, Granted, Claimed, Taken, NotOut, OtherPrefix, OverAllowance, Lower, NotLower, OtherBlock, Returned, Retired, worker, opening, allowance, share_of, best_time, Moves, Step, Run}
-use Rattle.s66_model.specs.Answer.{source_time}
-use Rattle.s66_model.specs.Coverage.{Covers, NeverRises}
-use Rattle.s66_model.specs.NodeTable.{IsTable}
-use Rattle.s66_model.specs.Reached.{IsReached}
-use Rattle.s66_model.specs.Recorded.{spends, spent_by}
+use Rattle.std.proofs.Common.{ℕ, zero, suc, ◌+◌, ◌≤◌, ◌<◌, ◌≡◌, cond, ◌-◌, List, [], ◌∷◌, ◌++◌, length, refl, sym, ap, arith, inl, inr, eqb, subst, ◌∙◌, Some, None, eq-eqb, ne_eqb, length-set}
+use Rattle.std.proofs.lemmas.Bool.{cases_eq, cond-true, cond-false}
+use Rattle.std.proofs.lemmas.List.{length-replicate}
+use Rattle.s66_isa.specs.{weigh, rising}
+use Rattle.s66_model.specs.{Rule, Problem, splits, Ledger, Event, Grant, Claim, Graft, Offer, Back, Retire, Reply, Granted, Claimed, Taken, NotOut, OtherPrefix, OverAllowance, Lower, NotLower}
+use Rattle.s66_model.specs.{OtherBlock, Returned, Retired, worker, opening, allowance, share_of, best_time, Moves, Step, Run, source_time, Covers, NeverRises, IsTable, IsReached, spends, spent_by}
 use Rattle.s66_model.proofs.LedgerRuns.{history-covers, run-falls}
 use Rattle.s66_model.proofs.OneTree.{history-table}
 

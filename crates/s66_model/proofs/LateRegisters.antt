@@ -1,14 +1,10 @@
 -- A register that is done after the next slot is one that the block writes.
 use Rattle.std.proofs.Common.{ℕ, ◌+◌, ◌<◌, ◌≡◌, true, cond, max, List, [], ◌∷◌, ◌++◌, map, refl, subst, arith, inl, inr}
 use Rattle.std.proofs.lemmas.Bool.{cases_Bool, cond-false}
-use Rattle.s66_isa.specs.declared.reg.Reg.{Reg}
-use Rattle.s66_isa.specs.Lists.{greatest, Among}
-use Rattle.s66_isa.specs.Table.{Write, has_reg, same_reg}
-use Rattle.s66_model.specs.Timing.{Problem, Point, ResultAt, row_at, done_at, done_of, readers_wait, result_at, start_of, point, point_of, points_after}
-use Rattle.s66_model.specs.LegalOrder.{GoesOn, IsBeginning}
-use Rattle.s66_model.specs.Tails.{HasLate, HasWritten}
+use Rattle.s66_isa.specs.{Reg, greatest, Among, Write, has_reg, same_reg}
 use Rattle.s66_isa.proofs.Lists.{cases_le}
 use Rattle.s66_isa.proofs.SameRegister.{same_reg-true}
+use Rattle.s66_model.specs.{Problem, Point, ResultAt, row_at, done_at, done_of, readers_wait, result_at, start_of, point, point_of, points_after, GoesOn, IsBeginning, HasLate, HasWritten}
 use Rattle.s66_model.proofs.LegalOrders.{ready-parts}
 
 writes-in : (xs : List Reg) (x : Reg) (s : List Point) (start : ℕ) (ws : List Write) → ((w : Write) → Among w ws → has_reg w.reg xs ≡ true) →

@@ -1,12 +1,9 @@
 -- The prefix at which a walk over a tree in preorder is determines all that it has still to reach.
-use Rattle.std.proofs.Common.{ℕ, zero, suc, ◌+◌, ◌-◌, ◌<◌, ◌≡◌, Bool, true, false, cond, List, [], ◌∷◌, ◌++◌, length, None, Some, refl, sym, ap, arith, inl, append_assoc, ◌∙◌, subst}
-use Rattle.std.proofs.lemmas.List.{append-nil}
-use Rattle.std.specs.List.{filter}
-use Rattle.s66_isa.specs.declared.instr.Instr.{Instr}
-use Rattle.s66_isa.specs.Lists.{rising, Among}
-use Rattle.s66_model.specs.LegalOrder.{is_ready, ready}
-use Rattle.s66_model.specs.Later.{ready_above, IsNextReady, children, later}
+use Rattle.std.proofs.Common.{ℕ, zero, suc, ◌+◌, ◌-◌, ◌<◌, ◌≡◌, Bool, true, false, cond, List, [], ◌∷◌, ◌++◌, length, None, Some, refl, sym, ap, arith, inl, append_assoc, ◌∙◌, subst, append-nil}
+use Rattle.std.proofs.Common.{filter}
+use Rattle.s66_isa.specs.{Instr, rising, Among}
 use Rattle.s66_isa.proofs.Lists.{filter-among}
+use Rattle.s66_model.specs.{is_ready, ready, ready_above, IsNextReady, children, later}
 
 -- THE NEXT READY NUMBER, looked for from n on
 

@@ -1,10 +1,7 @@
 -- Each step and every history of the ledger keep every legal order covered.
 use Rattle.std.proofs.Common.{ℕ, ◌≤◌, ◌≡◌, List, [], ◌∷◌, refl, sym, ap, arith, subst, Some, None}
-use Rattle.s66_model.specs.declared.rule.Rule.{Rule}
-use Rattle.s66_model.specs.Timing.{Problem}
-use Rattle.s66_model.specs.Piece.{IsPiece}
-use Rattle.s66_model.specs.LedgerRuns.{Ledger, Open, Out, is_cut_state, node_at, best_time, IsWorker, Event, Grant, Claim, Graft, Offer, Back, Retire, Reply, Granted, Claimed, Taken, NotOut, OtherPrefix, OverAllowance, Lower, NotLower, OtherBlock, Returned, Retired, worker, opening, after_graft, AreNamed, Moves, Step, Run}
-use Rattle.s66_model.specs.Coverage.{Covers, NeverRises}
+use Rattle.s66_model.specs.{Rule, Problem, IsPiece, Ledger, Open, Out, is_cut_state, node_at, best_time, IsWorker, Event, Grant, Claim, Graft, Offer, Back, Retire, Reply, Granted, Claimed, Taken}
+use Rattle.s66_model.specs.{NotOut, OtherPrefix, OverAllowance, Lower, NotLower, OtherBlock, Returned, Retired, worker, opening, after_graft, AreNamed, Moves, Step, Run, Covers, NeverRises}
 use Rattle.s66_model.proofs.LedgerSteps.{open_closed, out_closed, opening-covers, after_move-covers, after_grant-covers, after_retire-covers, after_offer-covers, after_graft-covers}
 
 -- STEPS

@@ -1,18 +1,13 @@
 -- Each event of the ledger keeps every legal order covered.
-use Rattle.std.proofs.Common.{ℕ, zero, suc, ◌+◌, ◌-◌, ◌≤◌, ◌<◌, ◌≡◌, ◌≢◌, Bool, true, false, true≢false, cond, List, [], ◌∷◌, ◌++◌, length, refl, sym, ap, arith, inl, inr, leb, ◌∙◌, subst, set, replicate}
-use Rattle.std.proofs.lemmas.Bool.{leb-true}
-use Rattle.s66_isa.specs.Lists.{weigh, tally, Among}
-use Rattle.s66_model.specs.declared.rule.Rule.{Rule}
-use Rattle.s66_model.specs.declared.rule.Rule.TheVariants.{NoneNamed, WrittenEarlier, ClampedStanding}
-use Rattle.s66_model.specs.Timing.{Problem, total_of}
-use Rattle.s66_model.specs.LegalOrder.{IsLegal, IsBeginning, is_ready}
-use Rattle.s66_model.specs.Leaves.{Leaf, value, floor, floor_value}
-use Rattle.s66_model.specs.Trees.{Tree, Alone, Parted, Siblings, NoMore, Unsplit, Split, SiblingsHold, splits}
-use Rattle.s66_model.specs.DominatedLeaves.{Ending, Bounding, Dominated, Factual, IsEarlier}
-use Rattle.s66_model.specs.Piece.{Terminal, Carries, Frontier, Passed, TerminalHolds, IsPiece}
-use Rattle.s66_model.specs.LedgerRuns.{Ledger, Node, State, Open, Out, Cut, Closed, is_cut, is_cut_state, is_open_state, node_at, no_node, with_state, best_time, IsWorker, allowance, share_of, opening, after_grant, after_retire, after_move, after_offer, after_graft, state_of, root_state, sibling_nodes, new_nodes, may_name, HasNamed, TerminalIsNamed, AreNamed, IsOut}
-use Rattle.s66_model.specs.Coverage.{begins, covers, ClosedHolds, NodeHolds, NodesHold, Covers}
+use Rattle.std.proofs.Common.{ℕ, zero, suc, ◌+◌, ◌-◌, ◌≤◌, ◌<◌, ◌≡◌, ◌≢◌, Bool, true, false, true≢false, cond, List, [], ◌∷◌, ◌++◌, length, refl, sym, ap, arith, inl, inr, leb, ◌∙◌, subst, set}
+use Rattle.std.proofs.Common.{replicate, leb-true}
+use Rattle.s66_isa.specs.{weigh, tally, Among}
 use Rattle.s66_isa.proofs.Lists.{tally-append, tally-set, weigh-set, among-front}
+use Rattle.s66_model.specs.{Rule, NoneNamed, WrittenEarlier, ClampedStanding, Problem, total_of, IsLegal, IsBeginning, is_ready, Leaf, value, floor, floor_value, Tree, Alone, Parted, Siblings, NoMore}
+use Rattle.s66_model.specs.{Unsplit, Split, SiblingsHold, splits, Ending, Bounding, Dominated, Factual, IsEarlier, Terminal, Carries, Frontier, Passed, TerminalHolds, IsPiece, Ledger, Node, State}
+use Rattle.s66_model.specs.{Open, Out, Cut, Closed, is_cut, is_cut_state, is_open_state, node_at, no_node, with_state, best_time, IsWorker, allowance, share_of, opening, after_grant, after_retire}
+use Rattle.s66_model.specs.{after_move, after_offer, after_graft, state_of, root_state, sibling_nodes, new_nodes, may_name, HasNamed, TerminalIsNamed, AreNamed, IsOut, begins, covers, ClosedHolds}
+use Rattle.s66_model.specs.{NodeHolds, NodesHold, Covers}
 use Rattle.s66_model.proofs.Beginnings.{source-legal}
 use Rattle.s66_model.proofs.Remaining.{ready-among, step-begins, legal-parts}
 use Rattle.s66_model.proofs.Floors.{floor-stands}

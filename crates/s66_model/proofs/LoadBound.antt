@@ -1,14 +1,10 @@
 -- The load of a kind of unit is a lower bound.
-use Rattle.std.proofs.Common.{ℕ, zero, suc, ◌+◌, ◌-◌, ◌*◌, ◌/◌, ◌≤◌, ◌<◌, ◌≡◌, true, false, cond, List, [], ◌∷◌, ◌++◌, refl, sym, ap, arith, inl, inr, ltb, ◌∙◌, subst}
-use Rattle.std.proofs.lemmas.Bool.{cond-false, eqb-true, cases_Bool, cases_lt, lt-ltb, le-ltb, and_left}
-use Rattle.std.proofs.Math.Nat.{div-lt_iff_lt-mul}
-use Rattle.s66_isa.specs.declared.instr.Kind.{Kind}
-use Rattle.s66_isa.specs.declared.instr.Kind.TheVariants.{Boolean, Shift, Add, LongAdd, Multiply, Divide, Increment}
-use Rattle.s66_isa.specs.Lists.{weigh, tally}
-use Rattle.s66_isa.specs.Table.{Row, same_kind, kind_number}
-use Rattle.s66_model.specs.Timing.{Problem, Point, row_at, copies, point_of, points_after, points_of, next, total, total_of, busy_at, point}
-use Rattle.s66_model.specs.LegalOrder.{IsBeginning, Completes, sum_remaining}
-use Rattle.s66_model.specs.Leaves.{rest_busy, work_of, unit_work, over, load}
+use Rattle.std.proofs.Common.{ℕ, zero, suc, ◌+◌, ◌-◌, ◌*◌, ◌/◌, ◌≤◌, ◌<◌, ◌≡◌, true, false, cond, List, [], ◌∷◌, ◌++◌, refl, sym, ap, arith, inl, inr, ltb, ◌∙◌, subst, eqb-true, lt-ltb, le-ltb}
+use Rattle.std.proofs.Common.{div-lt_iff_lt-mul}
+use Rattle.std.proofs.lemmas.Bool.{cond-false, cases_Bool, cases_lt, and_left}
+use Rattle.s66_isa.specs.{Kind, Boolean, Shift, Add, LongAdd, Multiply, Divide, Increment, weigh, tally, Row, same_kind, kind_number}
+use Rattle.s66_model.specs.{Problem, Point, row_at, copies, point_of, points_after, points_of, next, total, total_of, busy_at, point, IsBeginning, Completes, sum_remaining, rest_busy, work_of}
+use Rattle.s66_model.specs.{unit_work, over, load}
 use Rattle.s66_model.proofs.LegalOrders.{at-most-one, sum_remaining-is_rest}
 use Rattle.s66_model.proofs.Issue.{some_copies}
 use Rattle.s66_model.proofs.PointTimes.{good-at, points_after-append, next-grows, next-le-issue, issue-le-start, hold-le-free, point_of-row, issue-unit}

@@ -1,17 +1,11 @@
 -- The longest tail of a number that remains is the same after every beginning.
 use Rattle.std.proofs.Common.{ℕ, zero, suc, ◌+◌, ◌<◌, ◌≡◌, Bool, true, false, true≢false, ◌&&◌, max, List, [], ◌∷◌, ◌++◌, length, refl, sym, subst, ap, arith, inl, inr, ltb, eqb, append_assoc, ◌∙◌}
-use Rattle.std.proofs.lemmas.Bool.{and_parts, and_from, or_cases, or_right, eqb-true, ltb-true, cases_Bool}
-use Rattle.std.proofs.lemmas.List.{append-nil}
-use Rattle.std.specs.List.{filter}
-use Rattle.s66_isa.specs.declared.instr.Instr.{Instr}
-use Rattle.s66_isa.specs.Lists.{greatest, has}
-use Rattle.s66_isa.specs.Table.{instr_at, numbers}
-use Rattle.s66_model.specs.Dependence.{depends, conflict}
-use Rattle.s66_model.specs.Timing.{Problem, row_at, points_of}
-use Rattle.s66_model.specs.LegalOrder.{is_remaining, remaining, is_ready, GoesOn, IsBeginning}
-use Rattle.s66_model.specs.Leaves.{tail, link, is_linked, links_from, longest, head, chain}
-use Rattle.s66_model.specs.Tails.{longest_tail}
+use Rattle.std.proofs.Common.{eqb-true, ltb-true, append-nil, filter}
+use Rattle.std.proofs.lemmas.Bool.{and_parts, and_from, or_cases, or_right, cases_Bool}
+use Rattle.s66_isa.specs.{Instr, greatest, has, instr_at, numbers}
 use Rattle.s66_isa.proofs.Lists.{greatest-same, filter-filter, filter-same, filter-among}
+use Rattle.s66_model.specs.{depends, conflict, Problem, row_at, points_of, is_remaining, remaining, is_ready, GoesOn, IsBeginning, tail, link, is_linked, links_from, longest, head, chain}
+use Rattle.s66_model.specs.{longest_tail}
 use Rattle.s66_model.proofs.LegalOrders.{has-push, ready-parts, needs-each, depends-lt, depends-from}
 use Rattle.s66_model.proofs.Remaining.{remaining-parts, remaining-among, all-remain}
 use Rattle.s66_model.proofs.ChainBound.{link-conflict}

@@ -1,15 +1,11 @@
 -- The chain that is printed: it is a chain, none is greater, and of equal ones it goes first.
-use Rattle.std.proofs.Common.{ℕ, zero, suc, ◌+◌, ◌-◌, ◌≤◌, ◌<◌, ◌≡◌, ◌≢◌, Bool, true, true≢false, List, [], ◌∷◌, length, refl, sym, subst, ap, arith, inl, inr, ltb, eqb, ◌∙◌}
-use Rattle.std.proofs.lemmas.Bool.{ltb-true, eqb-true, eq-eqb, ne_eqb, and_parts, cond_both, cases_eq, cases_lt}
-use Rattle.std.specs.List.{filter}
-use Rattle.s66_isa.specs.declared.instr.Instr.{Instr}
-use Rattle.s66_isa.specs.Lists.{greatest, first_that, rising, Among}
-use Rattle.s66_isa.specs.Table.{numbers}
-use Rattle.s66_model.specs.Timing.{Problem, row_at, points_of}
-use Rattle.s66_model.specs.LegalOrder.{is_remaining, remaining}
-use Rattle.s66_model.specs.Leaves.{tail, link, is_linked, head, walk, chain_value, IsWalk, IsChain, links_from, longest, chain, longest_walk, longest_chain}
-use Rattle.s66_model.specs.Floor.{InDictionaryOrder}
+use Rattle.std.proofs.Common.{ℕ, zero, suc, ◌+◌, ◌-◌, ◌≤◌, ◌<◌, ◌≡◌, ◌≢◌, Bool, true, true≢false, List, [], ◌∷◌, length, refl, sym, subst, ap, arith, inl, inr, ltb, eqb, ◌∙◌, ltb-true, eqb-true}
+use Rattle.std.proofs.Common.{eq-eqb, ne_eqb, filter}
+use Rattle.std.proofs.lemmas.Bool.{and_parts, cond_both, cases_eq, cases_lt}
+use Rattle.s66_isa.specs.{Instr, greatest, first_that, rising, Among, numbers}
 use Rattle.s66_isa.proofs.Lists.{cases_le, le-greatest, filter-among}
+use Rattle.s66_model.specs.{Problem, row_at, points_of, is_remaining, remaining, tail, link, is_linked, head, walk, chain_value, IsWalk, IsChain, links_from, longest, chain, longest_walk}
+use Rattle.s66_model.specs.{longest_chain, InDictionaryOrder}
 use Rattle.s66_model.proofs.Remaining.{remaining-parts, among-filter, among-remaining, remaining-among}
 
 -- WHAT PASSES, THE GREATEST, THE FIRST

@@ -1,14 +1,12 @@
 -- No register but those of digits 0 to 7 is written or read.
 use Rattle.std.proofs.Common.{ℕ, ◌≤◌, ◌<◌, ◌≡◌, ◌==◌, true, false, cond, map, List, [], ◌∷◌, ◌++◌, refl, arith, ◌&&◌, ◌||◌, leb, ltb, ne_eqb}
 use Rattle.std.proofs.lemmas.Bool.{cond_both, and_right}
-use Rattle.s66_isa.specs.Lists.{greatest}
-use Rattle.s66_isa.specs.Table.{Reg, Instr, row, same_reg, has_reg, is_b0, unless_b0, insert, insert_all, bank_number, a_reg, b_reg, x_reg, shape_of, operand_registers, operands_of, stored_registers, reads_of, held_registers, loaded_registers, memory_of, hold_of, instr_at}
-use Rattle.s66_isa.specs.declared.instr.Memory.{Memory}
+use Rattle.s66_isa.specs.{greatest, row, same_reg, has_reg, is_b0, unless_b0, insert, insert_all, bank_number, a_reg, b_reg, x_reg, shape_of, operand_registers, operands_of, stored_registers}
+use Rattle.s66_isa.specs.{reads_of, held_registers, loaded_registers, memory_of, hold_of, instr_at, Memory, Operands}
+use Rattle.s66_isa.specs.Table.{Reg, Instr}
 use Rattle.s66_isa.specs.declared.instr.Memory.TheVariants as memory
-use Rattle.s66_isa.specs.declared.instr.Operands.{Operands}
 use Rattle.s66_isa.specs.declared.instr.Operands.TheVariants as operands
-use Rattle.s66_model.specs.Timing.{Problem, Point, ResultAt, point, point_of, points_after, points_of, result_at, row_at, done_of, done_at, readers_wait, start_of}
-use Rattle.s66_model.specs.Digits.{HasDigits}
+use Rattle.s66_model.specs.{Problem, Point, ResultAt, point, point_of, points_after, points_of, result_at, row_at, done_of, done_at, readers_wait, start_of, HasDigits}
 
 -- LISTS OF REGISTERS
 

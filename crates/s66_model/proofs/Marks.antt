@@ -1,11 +1,9 @@
 -- Lines of a tree appended to those that are kept, and read again one by one.
-use Rattle.std.proofs.Common.{◌≡◌, ℕ, zero, suc, ◌+◌, ◌≤◌, ◌<◌, List, [], ◌∷◌, ◌++◌, length, take, drop, get_or, refl, sym, ap, ◌∙◌, arith, length-append}
-use Rattle.std.proofs.lemmas.List.{take-append-le, drop-append-le, drop-drop, length-drop}
+use Rattle.std.proofs.Common.{◌≡◌, ℕ, zero, suc, ◌+◌, ◌≤◌, ◌<◌, List, [], ◌∷◌, ◌++◌, length, take, drop, get_or, refl, sym, ap, ◌∙◌, arith, length-append, drop-drop, length-drop}
+use Rattle.std.proofs.lemmas.List.{take-append-le, drop-append-le}
+use Rattle.s66_isa.specs.{some_of, weigh}
 use Rattle.s66_isa.proofs.Lists.{weigh-append}
-use Rattle.s66_isa.specs.Lists.{some_of, weigh}
-use Rattle.s66_model.specs.Lines.{has_dominated_line}
-use Rattle.s66_model.specs.Marks.{number_count, is_dominated, marked, vertices_of, begins_from, HaveTheirNumbers, AreKeptLines}
-use Rattle.s66_model.specs.declared.lines.Mark.{Mark}
+use Rattle.s66_model.specs.{has_dominated_line, number_count, is_dominated, marked, vertices_of, begins_from, HaveTheirNumbers, AreKeptLines, Mark}
 use Rattle.s66_model.specs.declared.lines.Mark.TheVariants as mark
 
 -- a line has no numbers but its own

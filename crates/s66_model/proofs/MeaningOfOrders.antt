@@ -1,13 +1,9 @@
 -- A legal order means what the source order means.
-use Rattle.std.proofs.Common.{ℕ, zero, suc, ◌+◌, ◌≤◌, ◌<◌, ◌≡◌, ◌≢◌, true, false, true≢false, cond, List, [], ◌∷◌, ◌++◌, length, refl, ap, sym, subst, ◌∙◌, arith, inl, inr, ltb, append_assoc}
-use Rattle.std.proofs.lemmas.Bool.{cases_Bool, cases_eq, cond-true, cond-false, false_from_ne_true, and_from, lt-ltb}
-use Rattle.std.proofs.lemmas.List.{append-nil}
-use Rattle.s66_isa.specs.declared.instr.Instr.{Instr}
-use Rattle.s66_isa.specs.Lists.{weigh, has, rising}
-use Rattle.s66_isa.specs.Table.{instr_at, numbers}
-use Rattle.s66_model.specs.Dependence.{conflict}
-use Rattle.s66_model.specs.LegalOrder.{IsLegal, IsOrder, GoesOn, is_ready}
-use Rattle.s66_model.specs.Meaning.{Contents, operation_at, after, at_start, run, meaning, KeepsMeaning}
+use Rattle.std.proofs.Common.{ℕ, zero, suc, ◌+◌, ◌≤◌, ◌<◌, ◌≡◌, ◌≢◌, true, false, true≢false, cond, List, [], ◌∷◌, ◌++◌, length, refl, ap, sym, subst, ◌∙◌, arith, inl, inr, ltb, append_assoc, lt-ltb}
+use Rattle.std.proofs.Common.{append-nil}
+use Rattle.std.proofs.lemmas.Bool.{cases_Bool, cases_eq, cond-true, cond-false, false_from_ne_true, and_from}
+use Rattle.s66_isa.specs.{Instr, weigh, has, rising, instr_at, numbers}
+use Rattle.s66_model.specs.{conflict, IsLegal, IsOrder, GoesOn, is_ready, Contents, operation_at, after, at_start, run, meaning, KeepsMeaning}
 use Rattle.s66_model.proofs.LegalOrders.{has_push-same, has_push-other, ready-parts, needs-each, sum_remaining-of_order, legal-order}
 use Rattle.s66_model.proofs.Exchange.{exchange}
 

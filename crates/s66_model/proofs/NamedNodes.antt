@@ -1,18 +1,10 @@
 -- In the tree of a ledger's nodes the prefix of each node leads to it.
-use Rattle.std.proofs.Common.{ℕ, ◌<◌, ◌≡◌, Bool, true, false, cond, List, [], ◌∷◌, ◌++◌, refl, sym, ap, arith, inl, inr, eqb, ◌∙◌, subst, append_assoc, Some}
-use Rattle.std.proofs.lemmas.Bool.{cases_Bool, eqb-true, eq-eqb}
-use Rattle.std.proofs.lemmas.List.{append-nil}
-use Rattle.s66_isa.specs.Lists.{tally, Among}
-use Rattle.s66_model.specs.declared.rule.Rule.{Rule}
-use Rattle.s66_model.specs.declared.rule.Rule.TheVariants.{NoneNamed, WrittenEarlier, ClampedStanding}
-use Rattle.s66_model.specs.Timing.{Problem}
-use Rattle.s66_model.specs.LegalOrder.{ready, GoesOn, IsBeginning}
-use Rattle.s66_model.specs.Trees.{Siblings, NoMore, Unsplit, Split, Tree, Alone, Parted, Vertex, AtTerminal, AtSplit}
-use Rattle.s66_model.specs.NodeNames.{terminal_at, sibling_at, node_named}
-use Rattle.s66_model.specs.DominatedLeaves.{Ending, Bounding, Dominated, Factual, may_be_named}
-use Rattle.s66_model.specs.LedgerRuns.{Ledger, Node, State, Open, Out, Cut, Closed, may_name, HasNamed}
-use Rattle.s66_model.specs.NodeTable.{stands_at, IsTable}
-use Rattle.s66_model.specs.NodeTree.{is_split_at, state_ending, ending_at, node_tree}
+use Rattle.std.proofs.Common.{ℕ, ◌<◌, ◌≡◌, Bool, true, false, cond, List, [], ◌∷◌, ◌++◌, refl, sym, ap, arith, inl, inr, eqb, ◌∙◌, subst, append_assoc, Some, eqb-true, eq-eqb, append-nil}
+use Rattle.std.proofs.lemmas.Bool.{cases_Bool}
+use Rattle.s66_isa.specs.{tally, Among}
+use Rattle.s66_model.specs.{Rule, NoneNamed, WrittenEarlier, ClampedStanding, Problem, ready, GoesOn, IsBeginning, Siblings, NoMore, Unsplit, Split, Tree, Alone, Parted, Vertex, AtTerminal, AtSplit}
+use Rattle.s66_model.specs.{terminal_at, sibling_at, node_named, Ending, Bounding, Dominated, Factual, may_be_named, Ledger, Node, State, Open, Out, Cut, Closed, may_name, HasNamed, stands_at}
+use Rattle.s66_model.specs.{IsTable, is_split_at, state_ending, ending_at, node_tree}
 use Rattle.s66_model.proofs.Remaining.{among-ready}
 use Rattle.s66_model.proofs.GrownTrees.{SiblingsFit, TreeFits}
 use Rattle.s66_model.proofs.NodeTrees.{is-same, passes-some, fits, uncut, none-along, ending-is}

@@ -1,19 +1,12 @@
 -- The tree of a ledger's nodes has each split of theirs, as many splits as they have, and the floor or the name of every other node.
-use Rattle.std.proofs.Common.{ℕ, zero, suc, ◌+◌, ◌≤◌, ◌<◌, ◌≡◌, ◌⊎◌, Bool, true, false, cond, ◌&&◌, List, [], ◌∷◌, ◌++◌, length, refl, sym, ap, arith, inl, inr, eqb, ◌∙◌, subst, append_assoc}
-use Rattle.std.proofs.lemmas.Bool.{cases_Bool, cases_eq, and_left, and_parts, and_from, eq-eqb, ne_eqb, ltb-true, ltb-false}
-use Rattle.std.proofs.lemmas.List.{append-nil}
-use Rattle.s66_isa.specs.Lists.{tally, weigh, Among}
-use Rattle.s66_model.specs.Timing.{Problem}
-use Rattle.s66_model.specs.LegalOrder.{is_ready, ready, GoesOn, IsBeginning, IsIncomplete}
-use Rattle.s66_model.specs.Leaves.{floor, floor_value}
-use Rattle.s66_model.specs.Trees.{Siblings, NoMore, Unsplit, Split, Tree, Alone, Parted, SiblingsHold, TreeHolds, sibling_splits, splits, siblings_split_at, split_at, sibling_values, tree_values}
-use Rattle.s66_model.specs.DominatedLeaves.{Ending, Bounding}
-use Rattle.s66_model.specs.Answer.{ending_values}
-use Rattle.s66_model.specs.LedgerRuns.{Ledger, Node, State, Open, Out, Cut, Closed, is_cut, is_cut_state}
-use Rattle.s66_model.specs.Coverage.{begins}
-use Rattle.s66_model.specs.NodeTable.{same_numbers, stands_at, is_cut_at, IsTable}
-use Rattle.s66_model.specs.NodeTree.{is_split_at, state_ending, ending_at, node_tree}
+use Rattle.std.proofs.Common.{ℕ, zero, suc, ◌+◌, ◌≤◌, ◌<◌, ◌≡◌, ◌⊎◌, Bool, true, false, cond, ◌&&◌, List, [], ◌∷◌, ◌++◌, length, refl, sym, ap, arith, inl, inr, eqb, ◌∙◌, subst, append_assoc, eq-eqb}
+use Rattle.std.proofs.Common.{ne_eqb, ltb-true, ltb-false, append-nil}
+use Rattle.std.proofs.lemmas.Bool.{cases_Bool, cases_eq, and_left, and_parts, and_from}
+use Rattle.s66_isa.specs.{tally, weigh, Among}
 use Rattle.s66_isa.proofs.Lists.{tally-none, tally-same, among-front, among-rest}
+use Rattle.s66_model.specs.{Problem, is_ready, ready, GoesOn, IsBeginning, IsIncomplete, floor, floor_value, Siblings, NoMore, Unsplit, Split, Tree, Alone, Parted, SiblingsHold, TreeHolds}
+use Rattle.s66_model.specs.{sibling_splits, splits, siblings_split_at, split_at, sibling_values, tree_values, Ending, Bounding, ending_values, Ledger, Node, State, Open, Out, Cut, Closed, is_cut}
+use Rattle.s66_model.specs.{is_cut_state, begins, same_numbers, stands_at, is_cut_at, IsTable, is_split_at, state_ending, ending_at, node_tree}
 use Rattle.s66_model.proofs.LegalOrders.{GoesOn-append, ready-parts}
 use Rattle.s66_model.proofs.Remaining.{among-ready, ready-among}
 use Rattle.s66_model.proofs.OnceCovered.{and_true, begins-rest, rising-once}

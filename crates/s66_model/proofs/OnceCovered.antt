@@ -1,16 +1,11 @@
 -- The prefixes of a piece that aren't split cover each legal order that begins with its own prefix once.
-use Rattle.std.proofs.Common.{ℕ, zero, suc, ◌+◌, ◌≤◌, ◌<◌, ◌≡◌, Bool, true, false, cond, ◌&&◌, List, [], ◌∷◌, ◌++◌, length, refl, sym, ap, arith, inl, inr, leb, eqb, ◌∙◌, filter, subst}
-use Rattle.std.proofs.lemmas.Bool.{and_parts, and_left, and_right, and_cases, eqb-true, eq-eqb, ne_eqb, cases_Bool, cases_eq}
-use Rattle.s66_isa.specs.Lists.{tally, rising}
-use Rattle.s66_model.specs.Timing.{Problem}
-use Rattle.s66_model.specs.LegalOrder.{IsLegal, IsIncomplete, is_ready, ready, GoesOn}
-use Rattle.s66_model.specs.Leaves.{Leaf, value}
-use Rattle.s66_model.specs.Trees.{Tree, Alone, Parted, Siblings, NoMore, Unsplit, Split, SiblingsHold, TreeHolds, sibling_splits, splits}
-use Rattle.s66_model.specs.DominatedLeaves.{Bounding}
-use Rattle.s66_model.specs.Piece.{Terminal, Carries, Frontier, Passed}
-use Rattle.s66_model.specs.LedgerRuns.{Open, Closed, is_cut, state_of, sibling_nodes, root_state, new_nodes}
-use Rattle.s66_model.specs.Coverage.{begins, covers}
+use Rattle.std.proofs.Common.{ℕ, zero, suc, ◌+◌, ◌≤◌, ◌<◌, ◌≡◌, Bool, true, false, cond, ◌&&◌, List, [], ◌∷◌, ◌++◌, length, refl, sym, ap, arith, inl, inr, leb, eqb, ◌∙◌, filter, subst, eqb-true}
+use Rattle.std.proofs.Common.{eq-eqb, ne_eqb}
+use Rattle.std.proofs.lemmas.Bool.{and_parts, and_left, and_right, and_cases, cases_Bool, cases_eq}
+use Rattle.s66_isa.specs.{tally, rising}
 use Rattle.s66_isa.proofs.Lists.{tally-append, tally-none, tally-same}
+use Rattle.s66_model.specs.{Problem, IsLegal, IsIncomplete, is_ready, ready, GoesOn, Leaf, value, Tree, Alone, Parted, Siblings, NoMore, Unsplit, Split, SiblingsHold, TreeHolds, sibling_splits}
+use Rattle.s66_model.specs.{splits, Bounding, Terminal, Carries, Frontier, Passed, Open, Closed, is_cut, state_of, sibling_nodes, root_state, new_nodes, begins, covers}
 use Rattle.s66_model.proofs.LegalOrders.{legal-order, GoesOn-append, ready-parts}
 use Rattle.s66_model.proofs.Remaining.{rest-first}
 

@@ -1,18 +1,13 @@
 -- The nodes of a ledger stay those of one tree, however the steps fall, and its best order stays the source order or is faster.
-use Rattle.std.proofs.Common.{ℕ, zero, suc, ◌+◌, ◌<◌, ◌≡◌, ◌≢◌, ◌⊎◌, Bool, true, false, true≢false, cond, ◌&&◌, List, [], ◌∷◌, ◌++◌, length, refl, sym, ap, arith, inl, inr, eqb, ◌∙◌, subst, set, Some, None}
-use Rattle.std.proofs.lemmas.Bool.{and_left, and_right, and_parts, eqb-true, cases_Bool}
-use Rattle.s66_isa.specs.Lists.{tally, Among}
-use Rattle.s66_isa.specs.Table.{numbers}
-use Rattle.s66_model.specs.declared.rule.Rule.{Rule}
-use Rattle.s66_model.specs.Timing.{Problem, total_of}
-use Rattle.s66_model.specs.LegalOrder.{is_ready, ready, IsBeginning, IsIncomplete}
-use Rattle.s66_model.specs.Trees.{Siblings, NoMore, Unsplit, Split, Tree, Alone, Parted, SiblingsHold, TreeHolds}
-use Rattle.s66_model.specs.Piece.{Terminal, TerminalHolds, IsPiece}
-use Rattle.s66_model.specs.Answer.{source_time}
-use Rattle.s66_model.specs.LedgerRuns.{Ledger, Node, State, Open, Out, Cut, is_cut, is_cut_state, node_at, no_node, with_state, state_of, root_state, sibling_nodes, new_nodes, best_time, after_move, after_graft, opening, IsOut, Event, Grant, Claim, Graft, Offer, Back, Retire, Reply, Granted, Claimed, Taken, NotOut, OtherPrefix, OverAllowance, Lower, NotLower, OtherBlock, Returned, Retired, Moves, Run}
-use Rattle.s66_model.specs.Coverage.{NodesHold}
-use Rattle.s66_model.specs.NodeTable.{same_numbers, stands_at, is_cut_at, IsTable}
+use Rattle.std.proofs.Common.{ℕ, zero, suc, ◌+◌, ◌<◌, ◌≡◌, ◌≢◌, ◌⊎◌, Bool, true, false, true≢false, cond, ◌&&◌, List, [], ◌∷◌, ◌++◌, length, refl, sym, ap, arith, inl, inr, eqb, ◌∙◌, subst, set, Some}
+use Rattle.std.proofs.Common.{None, eqb-true}
+use Rattle.std.proofs.lemmas.Bool.{and_left, and_right, and_parts, cases_Bool}
+use Rattle.s66_isa.specs.{tally, Among, numbers}
 use Rattle.s66_isa.proofs.Lists.{tally-append, tally-set, tally-none, tally-same}
+use Rattle.s66_model.specs.{Rule, Problem, total_of, is_ready, ready, IsBeginning, IsIncomplete, Siblings, NoMore, Unsplit, Split, Tree, Alone, Parted, SiblingsHold, TreeHolds, Terminal}
+use Rattle.s66_model.specs.{TerminalHolds, IsPiece, source_time, Ledger, Node, State, Open, Out, Cut, is_cut, is_cut_state, node_at, no_node, with_state, state_of, root_state, sibling_nodes}
+use Rattle.s66_model.specs.{new_nodes, best_time, after_move, after_graft, opening, IsOut, Event, Grant, Claim, Graft, Offer, Back, Retire, Reply, Granted, Claimed, Taken, NotOut, OtherPrefix}
+use Rattle.s66_model.specs.{OverAllowance, Lower, NotLower, OtherBlock, Returned, Retired, Moves, Run, NodesHold, same_numbers, stands_at, is_cut_at, IsTable}
 use Rattle.s66_model.proofs.LegalOrders.{GoesOn-append, ready-parts}
 use Rattle.s66_model.proofs.OnceCovered.{and_true, rising-once, cut_none}
 use Rattle.s66_model.proofs.LedgerRuns.{history-covers}

@@ -1,9 +1,8 @@
 -- The parcels of an order's points are those of its packing.
 use Rattle.std.proofs.Common.{ℕ, ◌+◌, ◌≡◌, List, [], ◌∷◌, ◌++◌, refl, sym, ap, map, reverse, append_assoc, append-nil, ◌∙◌}
 use Rattle.std.proofs.lemmas.List.{reverse-append, map-append}
-use Rattle.s66_isa.specs.Table.{row}
-use Rattle.s66_model.specs.Packing.{parcels_from, fits_at, len_at}
-use Rattle.s66_model.specs.Timing.{Problem, Point, point_of, point, points_after, points_of, next_parcel}
+use Rattle.s66_isa.specs.{row}
+use Rattle.s66_model.specs.{parcels_from, fits_at, len_at, Problem, Point, point_of, point, points_after, points_of, next_parcel}
 
 point_of-parcel : (b : Problem) (s : List Point) (n : ℕ) → (point_of b s n).parcel ≡ fits_at (next_parcel s) (len_at b.block n)
 unfolding point row

@@ -1,11 +1,9 @@
 -- The parcels are a lower bound.
 use Rattle.std.proofs.Common.{ℕ, ◌≤◌, ◌≡◌, List, [], ◌∷◌, ◌++◌, refl, ap, arith, ◌∙◌, subst}
-use Rattle.s66_isa.specs.Lists.{weigh}
-use Rattle.s66_model.specs.Timing.{Problem, row_at, point_of, points_after, points_of, total_of}
-use Rattle.s66_model.specs.LegalOrder.{remaining, sum_remaining, IsBeginning, Completes}
-use Rattle.s66_model.specs.Leaves.{if_last, parcels}
-use Rattle.s66_model.proofs.LegalOrders.{GoesOn-append, sum_remaining-is_rest}
+use Rattle.s66_isa.specs.{weigh}
 use Rattle.s66_isa.proofs.Lists.{weigh-append, least-le}
+use Rattle.s66_model.specs.{Problem, row_at, point_of, points_after, points_of, total_of, remaining, sum_remaining, IsBeginning, Completes, if_last, parcels}
+use Rattle.s66_model.proofs.LegalOrders.{GoesOn-append, sum_remaining-is_rest}
 use Rattle.s66_model.proofs.Remaining.{later-remains, among-remaining}
 use Rattle.s66_model.proofs.PointTimes.{points_after-append, next-grows, next-le-issue, issue-le-start, tail-le-last}
 

@@ -1,13 +1,10 @@
 -- Laws of the points of an order: when each issues, starts, is done and free at least, and how what comes after it only adds.
 use Rattle.std.proofs.Common.{ℕ, ◌+◌, ◌≤◌, ◌<◌, ◌≡◌, List, [], ◌∷◌, ◌++◌, length, refl, ap, arith, inl, inr}
-use Rattle.s66_isa.specs.Lists.{greatest, weigh, tally}
-use Rattle.s66_isa.specs.Table.{Row, Write}
-use Rattle.s66_model.specs.Timing.{Problem, Point, ResultAt, row_at, copies, end_of, next, slot_of, busy_at, issue_of, start_of, result_at, point, point_of, points_after}
-use Rattle.s66_model.specs.Leaves.{tail}
+use Rattle.s66_isa.specs.{greatest, weigh, tally, Row, Write, IsInRange}
 use Rattle.s66_isa.proofs.Lists.{cases_le, greatest-shift}
-use Rattle.s66_model.proofs.Issue.{issue-is, issue-late}
-use Rattle.s66_isa.specs.Rows.{IsInRange}
 use Rattle.s66_isa.proofs.GoodRows.{row-good}
+use Rattle.s66_model.specs.{Problem, Point, ResultAt, row_at, copies, end_of, next, slot_of, busy_at, issue_of, start_of, result_at, point, point_of, points_after, tail}
+use Rattle.s66_model.proofs.Issue.{issue-is, issue-late}
 use Rattle.s66_model.proofs.Growth.{fits_at-ge, free-ge, start-ge}
 
 pub good-at : (b : Problem) (n : ℕ) → IsInRange (row_at b n)

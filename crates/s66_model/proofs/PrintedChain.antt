@@ -1,14 +1,10 @@
 -- The printed chain: from its front on it is the longest walk of each number, which is known before anything is placed.
-use Rattle.std.proofs.Common.{ℕ, zero, suc, ◌+◌, ◌-◌, ◌≤◌, ◌≡◌, ◌≢◌, true, List, [], ◌∷◌, length, refl, sym, ap, arith, inl, inr, eqb, ◌∙◌}
-use Rattle.std.proofs.lemmas.Bool.{eq-eqb, ne_eqb, cases_eq, cond-false}
-use Rattle.std.specs.List.{filter}
-use Rattle.s66_isa.specs.Lists.{first_that, Among}
-use Rattle.s66_isa.specs.Table.{numbers}
-use Rattle.s66_model.specs.Timing.{Problem, row_at, points_of}
-use Rattle.s66_model.specs.LegalOrder.{is_remaining, remaining, IsBeginning}
-use Rattle.s66_model.specs.Leaves.{tail, link, is_linked, links_from, longest, head, chain, longest_walk, longest_chain}
-use Rattle.s66_model.specs.Tails.{longest_tail, walk_next, walk_after, chain_front}
+use Rattle.std.proofs.Common.{ℕ, zero, suc, ◌+◌, ◌-◌, ◌≤◌, ◌≡◌, ◌≢◌, true, List, [], ◌∷◌, length, refl, sym, ap, arith, inl, inr, eqb, ◌∙◌, eq-eqb, ne_eqb, filter}
+use Rattle.std.proofs.lemmas.Bool.{cases_eq, cond-false}
+use Rattle.s66_isa.specs.{first_that, Among, numbers}
 use Rattle.s66_isa.proofs.Lists.{first_that-same, filter-among}
+use Rattle.s66_model.specs.{Problem, row_at, points_of, is_remaining, remaining, IsBeginning, tail, link, is_linked, links_from, longest, head, chain, longest_walk, longest_chain, longest_tail}
+use Rattle.s66_model.specs.{walk_next, walk_after, chain_front}
 use Rattle.s66_model.proofs.Remaining.{remaining-parts, remaining-among}
 use Rattle.s66_model.proofs.LongestChain.{keeps, onward, onward-keeps, walk-ends, walk-goes, heads, front, front-heads}
 use Rattle.s66_model.proofs.Longest.{longest-same, links_from-static, links_from-same}

@@ -1,16 +1,11 @@
 -- A number that finds nothing later after some points than after others comes no later. After a push of it on both, what found nothing later still doesn't, and points that were no later than others still are.
-use Rattle.std.proofs.Common.{ℕ, ◌+◌, ◌%◌, ◌≤◌, ◌<◌, ◌≡◌, Bool, true, false, cond, ◌&&◌, max, min, List, [], ◌∷◌, refl, ap, arith, inl, inr, ltb, eqb, map}
-use Rattle.std.proofs.lemmas.Bool.{cases_Bool, lt-ltb, le-ltb}
-use Rattle.s66_isa.specs.declared.instr.Kind.{Kind}
-use Rattle.s66_isa.specs.declared.instr.Memory.{Memory}
+use Rattle.std.proofs.Common.{ℕ, ◌+◌, ◌%◌, ◌≤◌, ◌<◌, ◌≡◌, Bool, true, false, cond, ◌&&◌, max, min, List, [], ◌∷◌, refl, ap, arith, inl, inr, ltb, eqb, map, lt-ltb, le-ltb}
+use Rattle.std.proofs.lemmas.Bool.{cases_Bool}
+use Rattle.s66_isa.specs.{Kind, Memory, Reg, greatest, tally, Among, Row, Write, same_reg, same_kind, has_reg, memory_pair, touches, stores}
 use Rattle.s66_isa.specs.declared.instr.Memory.TheVariants as memory
-use Rattle.s66_isa.specs.declared.reg.Reg.{Reg}
-use Rattle.s66_isa.specs.Lists.{greatest, tally, Among}
-use Rattle.s66_isa.specs.Table.{Row, Write, same_reg, same_kind, has_reg, memory_pair, touches, stores}
 use Rattle.s66_isa.proofs.Lists.{cases_le, greatest-le, le-greatest, greatest-same}
-use Rattle.s66_model.specs.Packing.{fits_at}
-use Rattle.s66_model.specs.Timing.{Problem, ResultAt, Point, row_at, copies, next, next_parcel, slot_of, busy_at, issue_of, start_of, done_at, done_of, last_done, memory_wait, readers_wait, end_of, result_at, free_after, point, point_of}
-use Rattle.s66_model.specs.Dominance.{place_in_word, references_wait, stores_wait, Clamp}
+use Rattle.s66_model.specs.{fits_at, Problem, ResultAt, Point, row_at, copies, next, next_parcel, slot_of, busy_at, issue_of, start_of, done_at, done_of, last_done, memory_wait, readers_wait, end_of}
+use Rattle.s66_model.specs.{result_at, free_after, point, point_of, place_in_word, references_wait, stores_wait, Clamp}
 use Rattle.s66_model.proofs.Issue.{issue-is}
 use Rattle.s66_model.proofs.PointTimes.{good-at, point_of-row, next-le-issue, issue-le-start}
 use Rattle.s66_model.proofs.ChainBound.{reads-le-start, memory-le-start}

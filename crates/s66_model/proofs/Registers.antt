@@ -3,13 +3,9 @@
 use Rattle.std.proofs.Common.{ℕ, suc, ◌≡◌, true, false, true≢false, List, [], ◌∷◌, ◌++◌, map, refl, ap, sym, ◌∙◌, inl, inr}
 use Rattle.std.proofs.lemmas.Bool.{cases_Bool, or_parts, or_left, or_right, false_from_ne_true, cond-false}
 use Rattle.std.proofs.lemmas.List.{map-append}
-use Rattle.s66_isa.specs.declared.instr.Instr.{Instr}
-use Rattle.s66_isa.specs.declared.instr.Memory.{Memory}
-use Rattle.s66_isa.specs.declared.reg.Reg.{Reg}
-use Rattle.s66_isa.specs.Table.{same_reg, is_b0, has_reg, held_registers, loaded_registers, results_of, memory_of}
-use Rattle.s66_model.specs.Dependence.{share}
-use Rattle.s66_model.specs.Meaning.{Term, Terms, Storage, Loaded, Operation, register_value, values_of, results_computed, words_loaded, writes, after_writes, address_of}
+use Rattle.s66_isa.specs.{Instr, Memory, Reg, same_reg, is_b0, has_reg, held_registers, loaded_registers, results_of, memory_of}
 use Rattle.s66_isa.proofs.SameRegister.{same_reg-self, same_reg-sym, has_reg-at}
+use Rattle.s66_model.specs.{share, Term, Terms, Storage, Loaded, Operation, register_value, values_of, results_computed, words_loaded, writes, after_writes, address_of}
 
 -- WHICH STAND IN TWO SETS
 

@@ -1,12 +1,10 @@
 -- What remains after a beginning, what is ready, and what a whole order goes on with.
 use Rattle.std.proofs.Common.{ℕ, ◌≤◌, ◌≡◌, Bool, true, false, true≢false, not, ◌&&◌, List, [], ◌∷◌, ◌++◌, length, refl, sym, ap, arith, inl, inr, leb, eqb, append_assoc, length-append, subst, ◌∙◌}
-use Rattle.std.proofs.lemmas.Bool.{or_left, or_right, or_parts, or_from, and_parts, and_from, not_from_false, not-true, cond_both, cases_Bool, le-leb, leb-true, cond-false}
-use Rattle.std.specs.List.{filter}
-use Rattle.s66_isa.specs.declared.instr.Instr.{Instr}
-use Rattle.s66_isa.specs.Lists.{tally, has, Among}
-use Rattle.s66_isa.specs.Table.{numbers}
-use Rattle.s66_model.specs.LegalOrder.{IsLegal, is_ready, is_remaining, ready, remaining, IsBeginning, IsIncomplete, IsOrder, Completes}
+use Rattle.std.proofs.Common.{le-leb, leb-true, filter}
+use Rattle.std.proofs.lemmas.Bool.{or_left, or_right, or_parts, or_from, and_parts, and_from, not_from_false, not-true, cond_both, cases_Bool, cond-false}
+use Rattle.s66_isa.specs.{Instr, tally, has, Among, numbers}
 use Rattle.s66_isa.proofs.Lists.{rising-among, among-rising, filter-all, filter-among}
+use Rattle.s66_model.specs.{IsLegal, is_ready, is_remaining, ready, remaining, IsBeginning, IsIncomplete, IsOrder, Completes}
 use Rattle.s66_model.proofs.LegalOrders.{legal-order, order-legal, GoesOn-append, GoesOn-join, ready-parts}
 
 -- WHAT PASSES

@@ -1,10 +1,7 @@
 -- What is ready, what remains and sums over it depend on which numbers are placed, and not on their order.
-use Rattle.std.proofs.Common.{ℕ, zero, suc, ◌≡◌, Bool, cond, List, [], ◌∷◌, refl, ap, arith}
-use Rattle.std.specs.List.{filter}
-use Rattle.s66_isa.specs.declared.instr.Instr.{Instr}
-use Rattle.s66_isa.specs.Lists.{has, weigh}
-use Rattle.s66_isa.specs.Table.{numbers}
-use Rattle.s66_model.specs.LegalOrder.{needs_met, is_remaining, is_ready, ready, remaining, sum_remaining}
+use Rattle.std.proofs.Common.{ℕ, zero, suc, ◌≡◌, Bool, cond, List, [], ◌∷◌, refl, ap, arith, filter}
+use Rattle.s66_isa.specs.{Instr, has, weigh, numbers}
+use Rattle.s66_model.specs.{needs_met, is_remaining, is_ready, ready, remaining, sum_remaining}
 
 filter-same : {X : Type 0} (test other : X → Bool) → ((x : X) → test x ≡ other x) → (xs : List X) → filter test xs ≡ filter other xs
 filter-same test other same [] = refl

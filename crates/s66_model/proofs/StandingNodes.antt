@@ -1,11 +1,9 @@
 -- A node that a name leads to: it is over the tree's prefix, and one that stands is closed or split. What closes a prefix may be a leaf or anything else.
-use Rattle.std.proofs.Common.{ℕ, ◌≡◌, ◌⊎◌, Bool, true, false, List, [], ◌∷◌, ◌++◌, refl, sym, ap, inl, inr, eqb, subst, append_assoc, ◌∙◌, Option, Some, None}
-use Rattle.std.proofs.lemmas.Bool.{cases_Bool, eqb-true}
-use Rattle.std.proofs.lemmas.List.{append-nil}
-use Rattle.s66_isa.specs.declared.instr.Instr.{Instr}
-use Rattle.s66_model.specs.LegalOrder.{ready, IsIncomplete}
-use Rattle.s66_model.specs.Trees.{Siblings, NoMore, Unsplit, Split, Tree, Alone, Parted, Vertex, AtTerminal, AtSplit, SiblingsHold, TreeHolds}
-use Rattle.s66_model.specs.NodeNames.{terminal_at, sibling_at, node_named, is_node}
+use Rattle.std.proofs.Common.{ℕ, ◌≡◌, ◌⊎◌, Bool, true, false, List, [], ◌∷◌, ◌++◌, refl, sym, ap, inl, inr, eqb, subst, append_assoc, ◌∙◌, Option, Some, None, eqb-true, append-nil}
+use Rattle.std.proofs.lemmas.Bool.{cases_Bool}
+use Rattle.s66_isa.specs.{Instr}
+use Rattle.s66_model.specs.{ready, IsIncomplete, Siblings, NoMore, Unsplit, Split, Tree, Alone, Parted, Vertex, AtTerminal, AtSplit, SiblingsHold, TreeHolds, terminal_at, sibling_at, node_named}
+use Rattle.s66_model.specs.{is_node}
 
 -- a node's name goes on from the prefix
 pub node-begins : {M : Type 0} (prefix : List ℕ) (tree : Tree M) (name : List ℕ) → is_node (node_named prefix tree name) ≡ true → (path : List ℕ) × (name ≡ prefix ++ path)

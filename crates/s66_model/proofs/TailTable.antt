@@ -1,15 +1,9 @@
 -- The longest tails, each by those of later numbers, and how great they are at most.
-use Rattle.std.proofs.Common.{ℕ, zero, suc, ◌+◌, ◌*◌, ◌≤◌, ◌<◌, ◌≡◌, cond, max, List, [], length, ap, arith, ltb, ◌∙◌}
-use Rattle.std.proofs.lemmas.Bool.{and_parts, and_from, and_right, ltb-true, lt-ltb, le-ltb, cond-true, cond-false, cond_both}
-use Rattle.std.specs.List.{filter}
-use Rattle.s66_isa.specs.declared.limits.TheConstants.{BLOCK_LIMIT}
-use Rattle.s66_isa.specs.Lists.{greatest, Among}
-use Rattle.s66_isa.specs.Table.{Row, Write, numbers, memory_pair}
-use Rattle.s66_model.specs.Timing.{Problem, row_at}
-use Rattle.s66_model.specs.LegalOrder.{remaining}
-use Rattle.s66_model.specs.Leaves.{tail, uses, link, is_linked, links_from, longest}
-use Rattle.s66_model.specs.Tails.{longest_tail, walk_to}
+use Rattle.std.proofs.Common.{ℕ, zero, suc, ◌+◌, ◌*◌, ◌≤◌, ◌<◌, ◌≡◌, cond, max, List, [], length, ap, arith, ltb, ◌∙◌, ltb-true, lt-ltb, le-ltb, filter}
+use Rattle.std.proofs.lemmas.Bool.{and_parts, and_from, and_right, cond-true, cond-false, cond_both}
+use Rattle.s66_isa.specs.{BLOCK_LIMIT, greatest, Among, Row, Write, numbers, memory_pair}
 use Rattle.s66_isa.proofs.Lists.{greatest-le, greatest-same, greatest-filter, filter-among}
+use Rattle.s66_model.specs.{Problem, row_at, remaining, tail, uses, link, is_linked, links_from, longest, longest_tail, walk_to}
 use Rattle.s66_model.proofs.PointTimes.{good-at}
 use Rattle.s66_model.proofs.Remaining.{remaining-parts, remaining-among, all-remain}
 

@@ -1,11 +1,8 @@
 -- What a leaf is worth and what a tree shows are lower bounds.
-use Rattle.std.proofs.Common.{ℕ, ◌≤◌, ◌≡◌, List, [], ◌∷◌, ◌++◌, length, sym, ap, arith, inl, inr, ◌∙◌, append_assoc, length-append, subst}
-use Rattle.std.proofs.lemmas.List.{append-nil}
-use Rattle.s66_isa.specs.Lists.{Among}
-use Rattle.s66_model.specs.Timing.{Problem, total_of}
-use Rattle.s66_model.specs.LegalOrder.{ready, IsBeginning, IsIncomplete, Completes}
-use Rattle.s66_model.specs.Leaves.{Leaf, Whole, Chain, Load, Parcels, value, MayStand}
-use Rattle.s66_model.specs.Trees.{Siblings, NoMore, Unsplit, Split, Tree, Alone, Parted, LeafShows, SiblingsHold, Shows}
+use Rattle.std.proofs.Common.{ℕ, ◌≤◌, ◌≡◌, List, [], ◌∷◌, ◌++◌, length, sym, ap, arith, inl, inr, ◌∙◌, append_assoc, length-append, subst, append-nil}
+use Rattle.s66_isa.specs.{Among}
+use Rattle.s66_model.specs.{Problem, total_of, ready, IsBeginning, IsIncomplete, Completes, Leaf, Whole, Chain, Load, Parcels, value, MayStand, Siblings, NoMore, Unsplit, Split, Tree, Alone, Parted}
+use Rattle.s66_model.specs.{LeafShows, SiblingsHold, Shows}
 use Rattle.s66_model.proofs.Remaining.{among-ready, step-begins, step-completes, rest-first, rest-none}
 use Rattle.s66_model.proofs.ParcelsBound.{parcels-sound}
 use Rattle.s66_model.proofs.LoadBound.{load-sound}

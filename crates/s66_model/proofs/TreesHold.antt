@@ -1,9 +1,8 @@
 -- What holds at the terminals of a tree, and of a tree with other terminals.
 use Rattle.std.proofs.Common.{ℕ, ◌+◌, ◌≡◌, List, [], ◌∷◌, ◌++◌, refl, ap, arith}
-use Rattle.s66_isa.specs.declared.instr.Instr.{Instr}
-use Rattle.s66_model.specs.Trees.{Tree, Alone, Parted, Siblings, NoMore, Unsplit, Split, SiblingsHold, TreeHolds, sibling_splits, splits, siblings_split_at, split_at, sibling_values, tree_values}
-use Rattle.s66_model.specs.Preorder.{SiblingsMatch, TreeMatches}
-use Rattle.s66_model.specs.Stated.{siblings_seen, tree_seen}
+use Rattle.s66_isa.specs.{Instr}
+use Rattle.s66_model.specs.{Tree, Alone, Parted, Siblings, NoMore, Unsplit, Split, SiblingsHold, TreeHolds, sibling_splits, splits, siblings_split_at, split_at, sibling_values, tree_values}
+use Rattle.s66_model.specs.{SiblingsMatch, TreeMatches, siblings_seen, tree_seen}
 
 -- what is implied at each terminal holds of the tree
 module _ {M : Type 0} (block : List Instr) (Q R : List ℕ → M → Type 0) (each : (at : List ℕ) (terminal : M) → Q at terminal → R at terminal) where

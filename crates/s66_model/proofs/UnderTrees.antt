@@ -1,9 +1,7 @@
 -- What holds of the orders through each unsplit prefix of a tree holds of all orders that begin with the tree's prefix.
 use Rattle.std.proofs.Common.{ℕ, ◌≤◌, ◌<◌, ◌≡◌, List, [], ◌∷◌, ◌++◌, length, sym, arith, inl, inr, subst, append_assoc, length-append}
-use Rattle.s66_isa.specs.Lists.{Among}
-use Rattle.s66_model.specs.Timing.{Problem}
-use Rattle.s66_model.specs.LegalOrder.{ready, Completes, IsBeginning, IsIncomplete}
-use Rattle.s66_model.specs.Trees.{Siblings, NoMore, Unsplit, Split, Tree, Alone, Parted, SiblingsHold, TreeHolds}
+use Rattle.s66_isa.specs.{Among}
+use Rattle.s66_model.specs.{Problem, ready, Completes, IsBeginning, IsIncomplete, Siblings, NoMore, Unsplit, Split, Tree, Alone, Parted, SiblingsHold, TreeHolds}
 use Rattle.s66_model.proofs.Remaining.{among-ready, step-begins, step-completes, rest-first}
 
 -- R holds of each order through a terminal that is deeper than depth

@@ -1,11 +1,7 @@
 -- The load of a kind by a table of its work, what is busy of it, and how many units there are.
 use Rattle.std.proofs.Common.{ℕ, ◌+◌, ◌-◌, ◌/◌, ◌≡◌, List, get_or, ap, arith, ◌∙◌}
-use Rattle.s66_isa.specs.declared.instr.Kind.{Kind}
-use Rattle.s66_isa.specs.Lists.{weigh}
-use Rattle.s66_model.specs.Timing.{Problem, row_at, points_of, next, copies}
-use Rattle.s66_model.specs.LegalOrder.{remaining}
-use Rattle.s66_model.specs.Leaves.{load, unit_work, rest_busy, work_of}
-use Rattle.s66_model.specs.Tails.{HasWords}
+use Rattle.s66_isa.specs.{Kind, weigh}
+use Rattle.s66_model.specs.{Problem, row_at, points_of, next, copies, remaining, load, unit_work, rest_busy, work_of, HasWords}
 use Rattle.s66_model.proofs.FloorParts.{left-sum}
 
 pub load-parts : (b : Problem) (prefix : List ℕ) (kind : Kind) (words ns : List ℕ) (sum busy count slot : ℕ) → HasWords b (λ n. work_of kind (row_at b n)) words → ns ≡ remaining b.block prefix →

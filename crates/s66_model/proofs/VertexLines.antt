@@ -1,12 +1,7 @@
 -- The lines of a grown tree: of a prefix that isn't split one, and of a split one its own and then those of its children.
-use Rattle.std.proofs.Common.{ℕ, zero, suc, ◌+◌, ◌-◌, ◌≤◌, ◌≡◌, Bool, true, false, cond, List, [], ◌∷◌, ◌++◌, length, refl, sym, ap, arith, append_assoc, length-append, ◌∙◌}
-use Rattle.std.proofs.lemmas.List.{append-nil}
-use Rattle.s66_isa.specs.declared.instr.Instr.{Instr}
-use Rattle.s66_model.specs.LegalOrder.{ready}
-use Rattle.s66_model.specs.Trees.{Siblings, NoMore, Unsplit, Split, Alone, Parted, AtTerminal, AtSplit, flat, flat_siblings}
-use Rattle.s66_model.specs.NodeTree.{each_sibling, grown_sibling, grown_tree}
-use Rattle.s66_model.specs.Later.{children}
-use Rattle.s66_model.specs.TreeLines.{lines_at, lines_of}
+use Rattle.std.proofs.Common.{ℕ, zero, suc, ◌+◌, ◌-◌, ◌≤◌, ◌≡◌, Bool, true, false, cond, List, [], ◌∷◌, ◌++◌, length, refl, sym, ap, arith, append_assoc, length-append, ◌∙◌, append-nil}
+use Rattle.s66_isa.specs.{Instr}
+use Rattle.s66_model.specs.{ready, Siblings, NoMore, Unsplit, Split, Alone, Parted, AtTerminal, AtSplit, flat, flat_siblings, each_sibling, grown_sibling, grown_tree, children, lines_at, lines_of}
 
 module _ {M : Type 0} (block : List Instr) (is_split : List ℕ → Bool) (terminal : List ℕ → M) where
   abbrev sibling : ℕ → List ℕ → Siblings M → Siblings M

@@ -1,14 +1,10 @@
 -- The longest walk from a number that remains: links lead to later numbers, so one pass over what remains, in rising order, meets each number of it.
-use Rattle.std.proofs.Common.{ℕ, zero, suc, ◌+◌, ◌-◌, ◌≤◌, ◌<◌, ◌≡◌, ◌≢◌, Bool, true, false, true≢false, not, ◌&&◌, List, [], ◌∷◌, ◌++◌, length, refl, sym, subst, ap, arith, inl, inr, ltb, eqb, append_assoc, ◌∙◌, ◌⊎◌, cond}
-use Rattle.std.proofs.lemmas.Bool.{and_parts, and_from, ltb-true, eqb-true, eq-eqb, ne_eqb, cases_Bool, cases_eq, cond-true, cond-false}
-use Rattle.std.proofs.lemmas.List.{append-nil}
-use Rattle.std.specs.List.{filter}
-use Rattle.s66_isa.specs.Lists.{first_that, Among}
+use Rattle.std.proofs.Common.{ℕ, zero, suc, ◌+◌, ◌-◌, ◌≤◌, ◌<◌, ◌≡◌, ◌≢◌, Bool, true, false, true≢false, not, ◌&&◌, List, [], ◌∷◌, ◌++◌, length, refl, sym, subst, ap, arith, inl, inr, ltb, eqb}
+use Rattle.std.proofs.Common.{append_assoc, ◌∙◌, ◌⊎◌, cond, ltb-true, eqb-true, eq-eqb, ne_eqb, append-nil, filter}
+use Rattle.std.proofs.lemmas.Bool.{and_parts, and_from, cases_Bool, cases_eq, cond-true, cond-false}
+use Rattle.s66_isa.specs.{first_that, Among}
 use Rattle.s66_isa.proofs.Lists.{among-rest, first_that-same, filter-among}
-use Rattle.s66_model.specs.Timing.{Problem, row_at}
-use Rattle.s66_model.specs.LegalOrder.{is_remaining, remaining, IsBeginning}
-use Rattle.s66_model.specs.Leaves.{tail, link, is_linked, longest, longest_walk}
-use Rattle.s66_model.specs.Tails.{longest_tail, walk_after, chain_front}
+use Rattle.s66_model.specs.{Problem, row_at, is_remaining, remaining, IsBeginning, tail, link, is_linked, longest, longest_walk, longest_tail, walk_after, chain_front}
 use Rattle.s66_model.proofs.Remaining.{remaining-parts, remaining-among}
 use Rattle.s66_model.proofs.PrintedChain.{longest-enough, walk-static, front-static}
 use Rattle.s66_model.proofs.LongestChain.{keeps, onward, onward-keeps, walk-ends, walk-goes, front-heads, Rises, Rises-among, remaining-rises}

@@ -1,16 +1,10 @@
 -- The times of an order follow from the rows of its instructions in turn: a block that is written in the order has the same.
 use Rattle.std.proofs.Common.{ℕ, zero, suc, ◌+◌, ◌≡◌, ◌&&◌, ◌∙◌, Bool, cond, max, List, [], ◌∷◌, ◌++◌, length, map, refl, sym, ap, ap₂, subst, arith, append_assoc, length-append, leb, ltb}
 use Rattle.std.proofs.Math.Seq.{get_or-append_seam}
-use Rattle.s66_isa.specs.declared.instr.Instr.{Instr}
-use Rattle.s66_isa.specs.declared.profile.Profile.{Profile}
-use Rattle.s66_isa.specs.declared.reg.Reg.{Reg}
-use Rattle.s66_isa.specs.Lists.{greatest, tally, every, least_from, rising}
-use Rattle.s66_isa.specs.Table.{Row, Write, row, idle_instr, instr_at, numbers, has_reg, memory_pair}
+use Rattle.s66_isa.specs.{Instr, Profile, Reg, greatest, tally, every, least_from, rising, Row, Write, row, idle_instr, instr_at, numbers, has_reg, memory_pair}
 use Rattle.s66_isa.proofs.Lists.{greatest-same}
-use Rattle.s66_model.specs.Packing.{fits_at}
-use Rattle.s66_model.specs.Timing.{Problem, Point, row_at, copies, done_at, done_of, writes_reg, last_done, end_of, total, next_parcel, parcel_of, slot_of, busy_at, can_issue, issue_of, memory_wait, start_of, readers_wait, result_at, point, point_of, points_after, points_of, total_of}
-use Rattle.s66_model.specs.Answer.{source_time}
-use Rattle.s66_model.specs.WrittenOrder.{written_in}
+use Rattle.s66_model.specs.{fits_at, Problem, Point, row_at, copies, done_at, done_of, writes_reg, last_done, end_of, total, next_parcel, parcel_of, slot_of, busy_at, can_issue, issue_of, memory_wait}
+use Rattle.s66_model.specs.{start_of, readers_wait, result_at, point, point_of, points_after, points_of, total_of, source_time, written_in}
 
 -- WORDS ON LISTS
 

@@ -1,6 +1,6 @@
 -- To be believed: what a history holds of each worker, what the rule of a ledger's lock reads of the ledger, and what a worker's seat keeps of it.
 use Rattle.std.specs.Prelude.{ℕ, ◌+◌, ◌-◌, ◌≡◌, ◌≤◌, ◌==◌, List, [], ◌∷◌, length, map, filter, get_or, min, Option, Some, None}
-use Rattle.s66_isa.specs.Lists.{rising}
+use Rattle.s66_isa.specs.{rising}
 use Rattle.s66_model.specs.declared.rule.Rule.{Rule}
 use Rattle.s66_model.specs.Timing.{Problem}
 use Rattle.s66_model.specs.LedgerRuns.{Ledger, Event, Grant, Claim, Graft, Offer, Back, Retire, Reply, Lower, NotLower, worker, best_time}

@@ -1,6 +1,6 @@
 -- To be believed: what every state of the ledger keeps, the bound that it shows, and how it ends.
 use Rattle.std.specs.Prelude.{ℕ, ◌+◌, ◌≡◌, ◌≤◌, Bool, true, false, if◌then◌else◌, not, ◌&&◌, ◌==◌, List, [], ◌∷◌, ◌++◌}
-use Rattle.s66_isa.specs.Lists.{tally, weigh, least, Among}
+use Rattle.s66_isa.specs.{tally, weigh, least, Among}
 use Rattle.s66_model.specs.declared.rule.Rule.{Rule}
 use Rattle.s66_model.specs.Timing.{Problem, total_of}
 use Rattle.s66_model.specs.LegalOrder.{IsLegal, IsBeginning}

@@ -3,10 +3,7 @@
 --
 -- `FORMATS.md`, "Dominated leaves", lists the times that are compared.
 use Rattle.std.specs.Prelude.{ℕ, ◌+◌, ◌%◌, ◌≡◌, ◌<◌, ◌≤◌, if◌then◌else◌, max, List, [], ◌∷◌, ◌++◌, get_or, nat_le}
-use Rattle.s66_isa.specs.declared.instr.Kind.{Kind}
-use Rattle.s66_isa.specs.declared.reg.Reg.{Reg}
-use Rattle.s66_isa.specs.Lists.{greatest, has}
-use Rattle.s66_isa.specs.Table.{same_kind, touches, stores}
+use Rattle.s66_isa.specs.{Kind, Reg, greatest, has, same_kind, touches, stores}
 use Rattle.s66_model.specs.Timing.{Problem, Point, copies, points_of, next, next_parcel, done_of, readers_wait, total_of}
 use Rattle.s66_model.specs.LegalOrder.{IsLegal, IsBeginning}
 

@@ -2,13 +2,7 @@
 -- does under the standard profile, what leaves a prefix has, and what trees there are of them.
 use Rattle.std.specs.Prelude.{ℕ, Bool, zero, suc, true, false, ◌≢◌, List, [], ◌∷◌, map, reverse}
 use Rattle.std.proofs.Common.{lit≤}
-use Rattle.s66_isa.specs.declared.instr.Instr.{Instr}
-use Rattle.s66_isa.specs.declared.instr.Kind.{Kind}
-use Rattle.s66_isa.specs.declared.instr.Kind.TheVariants.{Boolean, Multiply, Increment}
-use Rattle.s66_isa.specs.declared.instr.Memory.{Memory}
-use Rattle.s66_isa.specs.declared.reg.Reg.{Reg}
-use Rattle.s66_isa.specs.declared.profile.Profile.{Profile}
-use Rattle.s66_isa.specs.Table.{instr, numbers, Row, Write, standard, a_reg, b_reg, all_kinds, reads_of, results_of, memory_of, memory_pair}
+use Rattle.s66_isa.specs.{Instr, Kind, Boolean, Multiply, Increment, Memory, Reg, Profile, instr, numbers, Row, Write, standard, a_reg, b_reg, all_kinds, reads_of, results_of, memory_of, memory_pair}
 use Rattle.s66_model.specs.declared.rule.Rule.{Rule}
 use Rattle.s66_model.specs.declared.rule.Rule.TheVariants.{WrittenEarlier, ClampedStanding}
 use Rattle.s66_model.specs.Packing.{parcels_from, fillers, len_at}

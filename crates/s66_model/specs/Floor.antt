@@ -1,6 +1,6 @@
 -- To be believed: which of the leaves that may stand at a prefix is its floor.
 use Rattle.std.specs.Prelude.{ℕ, ◌≡◌, ◌<◌, ◌≤◌, ◌⊎◌, List, [], ◌∷◌}
-use Rattle.s66_isa.specs.Table.{kind_number}
+use Rattle.s66_isa.specs.{kind_number}
 use Rattle.s66_model.specs.Timing.{Problem}
 use Rattle.s66_model.specs.Leaves.{Leaf, Whole, Chain, Load, Parcels, value, MayStand}
 

@@ -1,8 +1,6 @@
 -- Used by contracts: the prefixes that a walk over a tree in preorder has still to reach, by the prefix at which it is.
-use Rattle.std.specs.Prelude.{ℕ, suc, ◌-◌, ◌≡◌, Bool, true, false, List, [], ◌∷◌, ◌++◌, Option, None, Some, length, map}
-use Rattle.std.specs.List.{filter}
-use Rattle.s66_isa.specs.declared.instr.Instr.{Instr}
-use Rattle.s66_isa.specs.Lists.{rising}
+use Rattle.std.specs.Prelude.{ℕ, suc, ◌-◌, ◌≡◌, Bool, true, false, List, [], ◌∷◌, ◌++◌, Option, None, Some, length, map, filter}
+use Rattle.s66_isa.specs.{Instr, rising}
 use Rattle.s66_model.specs.LegalOrder.{is_ready}
 
 -- the ready numbers above n, rising

@@ -1,6 +1,6 @@
 -- Used by examples alone: ledgers and their histories, of the worked blocks of the model.
 use Rattle.std.specs.Prelude.{ℕ, true, List, [], ◌∷◌, Some, None}
-use Rattle.s66_isa.specs.declared.instr.Kind.TheVariants.{Boolean}
+use Rattle.s66_isa.specs.{Boolean}
 use Rattle.s66_model.specs.declared.rule.Rule.TheVariants.{NoneNamed}
 use Rattle.s66_model.specs.Timing.{Problem}
 use Rattle.s66_model.specs.Leaves.{Load}

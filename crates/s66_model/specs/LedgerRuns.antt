@@ -5,8 +5,7 @@
 -- allowance; it closes each leaf of at least the best time and each dominated prefix, and leaves the rest open. An offer takes an order
 -- that is faster than the best.
 use Rattle.std.specs.Prelude.{ℕ, ◌+◌, ◌-◌, ◌≡◌, ◌<◌, ◌≤◌, Bool, true, false, if◌then◌else◌, min, List, [], ◌∷◌, ◌++◌, length, get_or, set, nat_le, Option, Some, None, replicate}
-use Rattle.s66_isa.specs.Lists.{tally, Among}
-use Rattle.s66_isa.specs.Table.{numbers}
+use Rattle.s66_isa.specs.{tally, Among, numbers}
 use Rattle.s66_model.specs.declared.rule.Rule.{Rule}
 use Rattle.s66_model.specs.declared.rule.Rule.TheVariants.{NoneNamed, WrittenEarlier, ClampedStanding}
 use Rattle.s66_model.specs.Timing.{Problem, total_of}

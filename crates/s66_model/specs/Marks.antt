@@ -1,6 +1,6 @@
 -- Used by contracts: the lines of a tree that its marks and its numbers keep.
 use Rattle.std.specs.Prelude.{◌≡◌, ◌+◌, ℕ, Bool, true, false, List, [], ◌∷◌, length, take, drop}
-use Rattle.s66_isa.specs.Lists.{weigh}
+use Rattle.s66_isa.specs.{weigh}
 use Rattle.s66_model.specs.Leaves.{Whole, Chain, Load, Parcels}
 use Rattle.s66_model.specs.Trees.{Vertex, AtTerminal, AtSplit}
 use Rattle.s66_model.specs.DominatedLeaves.{Ending, Bounding, Dominated, Factual}

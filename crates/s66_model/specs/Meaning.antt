@@ -3,11 +3,8 @@
 -- B0 is zero whenever it is read. If an operation has an X and a B result, X is number 0 and B number 1. The result of a reference to
 -- memory is the A register, and its term is the address.
 use Rattle.std.specs.Prelude.{ℕ, suc, ◌≡◌, if◌then◌else◌, List, [], ◌∷◌, ◌++◌, map}
-use Rattle.s66_isa.specs.declared.instr.Instr.{Instr}
-use Rattle.s66_isa.specs.declared.instr.Memory.{Memory}
+use Rattle.s66_isa.specs.{Instr, Memory, Reg, operands_of, held_registers, loaded_registers, memory_of, same_reg, is_b0, x_reg, instr_at, numbers}
 use Rattle.s66_isa.specs.declared.instr.Memory.TheVariants as memory
-use Rattle.s66_isa.specs.declared.reg.Reg.{Reg}
-use Rattle.s66_isa.specs.Table.{operands_of, held_registers, loaded_registers, memory_of, same_reg, is_b0, x_reg, instr_at, numbers}
 
 mutual
   -- what a register holds: zero, its initial value, a result of an operation, or what a memory held at an address

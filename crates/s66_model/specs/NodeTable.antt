@@ -1,7 +1,6 @@
 -- Used by contracts of the ledger: its nodes are those of one tree, and its best order is the source order or faster.
 use Rattle.std.specs.Prelude.{ℕ, ◌≡◌, ◌<◌, ◌⊎◌, ◌==◌, ◌&&◌, Bool, true, false, List, [], ◌∷◌, ◌++◌}
-use Rattle.s66_isa.specs.Lists.{tally, Among}
-use Rattle.s66_isa.specs.Table.{numbers}
+use Rattle.s66_isa.specs.{tally, Among, numbers}
 use Rattle.s66_model.specs.Timing.{Problem}
 use Rattle.s66_model.specs.LegalOrder.{is_ready, IsIncomplete}
 use Rattle.s66_model.specs.Answer.{source_time}

@@ -1,7 +1,6 @@
 -- Used by contracts of the ledger: the tree of its nodes, split where a node is split, with floors and dominated leaves elsewhere.
 use Rattle.std.specs.Prelude.{ℕ, zero, suc, Bool, if◌then◌else◌, List, [], ◌∷◌, ◌++◌, length, nat_lt}
-use Rattle.s66_isa.specs.declared.instr.Instr.{Instr}
-use Rattle.s66_isa.specs.Lists.{tally}
+use Rattle.s66_isa.specs.{Instr, tally}
 use Rattle.s66_model.specs.Timing.{Problem}
 use Rattle.s66_model.specs.LegalOrder.{ready}
 use Rattle.s66_model.specs.Leaves.{floor}

@@ -1,7 +1,6 @@
 -- To be believed: how instructions are packed into words of four parcels of 15 bits (Reference Manual, instruction formats).
 use Rattle.std.specs.Prelude.{ℕ, ◌+◌, ◌%◌, ◌==◌, ◌&&◌, if◌then◌else◌, List, [], ◌∷◌, ◌++◌}
-use Rattle.s66_isa.specs.declared.instr.Instr.{Instr}
-use Rattle.s66_isa.specs.Table.{parcels_of, instr_at}
+use Rattle.s66_isa.specs.{Instr, parcels_of, instr_at}
 
 -- where an instruction of len parcels begins when the parcels from q on are empty: one of two parcels doesn't begin in the last parcel of a word
 abbrev pub fits_at : ℕ → ℕ → ℕ

@@ -1,6 +1,6 @@
 -- To be believed: what a ledger records of a graft and of an offer, whatever it answers, and what its entries spend.
 use Rattle.std.specs.Prelude.{ℕ, ◌≡◌, ◌↔◌, ◌⊎◌, ◌==◌, Bool, true, if◌then◌else◌, List, Some, None}
-use Rattle.s66_isa.specs.Lists.{weigh}
+use Rattle.s66_isa.specs.{weigh}
 use Rattle.s66_model.specs.declared.rule.Rule.{Rule}
 use Rattle.s66_model.specs.Timing.{Problem, total_of}
 use Rattle.s66_model.specs.Trees.{Tree, Alone, Parted, Siblings, NoMore, Unsplit, Split, splits}

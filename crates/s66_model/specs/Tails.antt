@@ -1,9 +1,6 @@
 -- Used by contracts of what computes floors: what of a floor is known before anything is placed, and which registers keep a chain from starting at the next slot.
-use Rattle.std.specs.Prelude.{ℕ, zero, suc, ◌+◌, ◌-◌, ◌≡◌, ◌≤◌, ◌<◌, ◌==◌, if◌then◌else◌, List, [], ◌∷◌, length, get_or, true, false}
-use Rattle.std.specs.List.{filter}
-use Rattle.s66_isa.specs.declared.reg.Reg.{Reg}
-use Rattle.s66_isa.specs.Lists.{greatest, first_that, Among}
-use Rattle.s66_isa.specs.Table.{Write, has_reg, numbers}
+use Rattle.std.specs.Prelude.{ℕ, zero, suc, ◌+◌, ◌-◌, ◌≡◌, ◌≤◌, ◌<◌, ◌==◌, if◌then◌else◌, List, [], ◌∷◌, length, get_or, true, false, filter}
+use Rattle.s66_isa.specs.{Reg, greatest, first_that, Among, Write, has_reg, numbers}
 use Rattle.s66_model.specs.Timing.{Problem, row_at, points_of, next, done_of}
 use Rattle.s66_model.specs.LegalOrder.{remaining}
 use Rattle.s66_model.specs.Leaves.{tail, uses, link, is_linked, longest, head, chain}

@@ -1,6 +1,6 @@
 -- Used by contracts: the lines of a tree that is grown from a prefix, and of several such trees.
 use Rattle.std.specs.Prelude.{ℕ, suc, ◌-◌, Bool, List, [], ◌∷◌, ◌++◌, length}
-use Rattle.s66_isa.specs.declared.instr.Instr.{Instr}
+use Rattle.s66_isa.specs.{Instr}
 use Rattle.s66_model.specs.Trees.{NoMore, Vertex, flat_siblings}
 use Rattle.s66_model.specs.NodeTree.{grown_sibling}
 

@@ -1,6 +1,6 @@
 -- To be believed: a block that is written in an order.
 use Rattle.std.specs.Prelude.{ℕ, List, map}
-use Rattle.s66_isa.specs.Table.{instr_at}
+use Rattle.s66_isa.specs.{instr_at}
 use Rattle.s66_model.specs.Timing.{Problem}
 
 -- its instructions are those of these numbers in turn

@@ -1,16 +1,10 @@
 //! Laws and examples of answers to a problem: an order, its time, a bound, and a tree that shows the bound (`answer_law`).
 
 ghost use Rattle.std.specs.Prelude.{ℕ, ◌≡◌, [], ◌∷◌};
-ghost use Rattle.s66_isa.specs.declared.instr.Kind.TheVariants.{Boolean, Multiply};
-ghost use Rattle.s66_model.specs.declared.rule.Rule.{Rule};
-ghost use Rattle.s66_model.specs.declared.rule.Rule.TheVariants.{NoneNamed};
-ghost use Rattle.s66_model.specs.Timing.{Problem};
-ghost use Rattle.s66_model.specs.BestAndBound.{IsBound, IsBest};
-ghost use Rattle.s66_model.specs.Leaves.{Whole, Chain, Load, Parcels};
-ghost use Rattle.s66_model.specs.Trees.{Alone};
-ghost use Rattle.s66_model.specs.DominatedLeaves.{ShowsBy};
-ghost use Rattle.s66_model.specs.Answer.{Answer, IsAnswer, IsBestAnswer, source_time};
-ghost use Rattle.s66_model.specs.Examples.{standard_problem, zero_register, boolean_problem, load_problem, multiply_problem, answer, every_order, all_but_one, one_omitted, load_tree, load_orders};
+ghost use Rattle.s66_isa.specs.{Boolean, Multiply};
+ghost use Rattle.s66_model.specs.{Rule, NoneNamed, Problem, IsBound, IsBest, Whole, Chain, Load, Parcels, Alone, ShowsBy, IsAnswer, IsBestAnswer, source_time, standard_problem, zero_register};
+ghost use Rattle.s66_model.specs.{boolean_problem, load_problem, multiply_problem, answer, every_order, all_but_one, one_omitted, load_tree, load_orders};
+ghost use Rattle.s66_model.specs.Answer.{Answer};
 
 /// The tree of an answer shows its bound, so the bound is one. If it is the time, none is faster.
 pub fn answer_law()

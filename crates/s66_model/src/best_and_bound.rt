@@ -1,7 +1,6 @@
 //! Examples of bounds and bests: which times are lower bounds of all legal orders of a block, and which is the best.
 
-ghost use Rattle.s66_model.specs.BestAndBound.{IsBound, IsBest};
-ghost use Rattle.s66_model.specs.Examples.{load_problem};
+ghost use Rattle.s66_model.specs.{IsBound, IsBest, load_problem};
 
 /// What is a bound of a block, and what is its best time.
 pub fn bound_examples()

@@ -1,7 +1,7 @@
 //! Examples of dependence: which instruction must stay after which, by registers or by memory.
 
 ghost use Rattle.std.specs.Prelude.{◌≡◌, [], ◌∷◌};
-ghost use Rattle.s66_model.specs.Dependence.{all_needs};
+ghost use Rattle.s66_model.specs.{all_needs};
 ghost use Rattle.s66_model.specs.Examples as examples;
 
 /// The numbers on which instructions 1, 2, .. depend.

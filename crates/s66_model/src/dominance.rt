@@ -1,11 +1,8 @@
 //! Laws and examples of dominance: what a beginning that is no later than another of the same numbers is worth (`dominance_law`).
 
 ghost use Rattle.std.specs.Prelude.{ℕ, List, ◌≡◌, ◌≤◌, true, [], ◌∷◌, ◌++◌};
-ghost use Rattle.s66_isa.specs.Table.{instr};
-ghost use Rattle.s66_model.specs.Timing.{Problem, total_of};
-ghost use Rattle.s66_model.specs.LegalOrder.{is_ready};
-ghost use Rattle.s66_model.specs.Dominance.{Dominates, DominatesClamped, IsNoWorse};
-ghost use Rattle.s66_model.specs.Examples.{standard_problem, packing_gap, two_gaps, booleans_and_sets, late_reader, late_result, later_gap};
+ghost use Rattle.s66_isa.specs.{instr};
+ghost use Rattle.s66_model.specs.{Problem, total_of, is_ready, Dominates, DominatesClamped, IsNoWorse, standard_problem, packing_gap, two_gaps, booleans_and_sets, late_reader, late_result, later_gap};
 
 /// A beginning that dominates another still does after both go on with the same number. So whatever completes the other completes
 /// it too, with no greater total. All this also holds clamped at the next slot, which requires less: that its own total is no

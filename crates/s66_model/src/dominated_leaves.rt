@@ -1,15 +1,8 @@
 //! Laws and examples of trees with dominated leaves: what they show, by each rule of which nodes such leaves may name.
 
 ghost use Rattle.std.specs.Prelude.{ℕ, List, ◌≤◌, ◌↔◌, [], ◌∷◌, ◌++◌};
-ghost use Rattle.s66_model.specs.declared.rule.Rule.{Rule};
-ghost use Rattle.s66_model.specs.declared.rule.Rule.TheVariants.{NoneNamed, WrittenEarlier, ClampedStanding};
-ghost use Rattle.s66_model.specs.Timing.{Problem, total_of};
-ghost use Rattle.s66_model.specs.LegalOrder.{IsLegal};
-ghost use Rattle.s66_model.specs.BestAndBound.{IsBound};
-ghost use Rattle.s66_model.specs.Leaves.{Leaf};
-ghost use Rattle.s66_model.specs.Trees.{Tree, Shows};
-ghost use Rattle.s66_model.specs.DominatedLeaves.{Ending, Dominated, ShowsBy, tree_bounding};
-ghost use Rattle.s66_model.specs.Examples.{standard_problem, ByBoth, late_reader, three_increments, late_reader_tree, fourth_bounding, fourth_split, increments_load, increments_tree, first_unsplit, order_ending};
+ghost use Rattle.s66_model.specs.{Rule, NoneNamed, WrittenEarlier, ClampedStanding, Problem, total_of, IsLegal, IsBound, Leaf, Tree, Shows, Ending, Dominated, ShowsBy, tree_bounding, standard_problem};
+ghost use Rattle.s66_model.specs.{ByBoth, late_reader, three_increments, late_reader_tree, fourth_bounding, fourth_split, increments_load, increments_tree, first_unsplit, order_ending};
 
 /// What a tree shows over a prefix, by any rule, is at most the total of every legal order that begins with it; over the
 /// empty prefix it is a bound. A tree of leaves shows the same by each rule as without any.

@@ -2,12 +2,9 @@
 //! (`leaf_law`, `floor_law`).
 
 ghost use Rattle.std.specs.Prelude.{ℕ, List, ◌≡◌, ◌≤◌, ◌↔◌, [], ◌∷◌, ◌++◌};
-ghost use Rattle.s66_isa.specs.declared.instr.Kind.TheVariants.{Boolean, Shift, Multiply, Divide};
-ghost use Rattle.s66_model.specs.Timing.{Problem, total_of};
-ghost use Rattle.s66_model.specs.LegalOrder.{IsLegal, IsBeginning};
-ghost use Rattle.s66_model.specs.Leaves.{Leaf, MayStand, value, floor, Whole, Chain, Load, Parcels, parcels, chain_value};
-ghost use Rattle.s66_model.specs.Floor.{IsFloor};
-ghost use Rattle.s66_model.specs.Examples.{standard_problem, floor_in, chain_in, loads_in, link_in, load_problem, multiply_problem};
+ghost use Rattle.s66_isa.specs.{Boolean, Shift, Multiply, Divide};
+ghost use Rattle.s66_model.specs.{Problem, total_of, IsLegal, IsBeginning, Leaf, MayStand, value, floor, Whole, Chain, Load, Parcels, parcels, chain_value, IsFloor, standard_problem, floor_in};
+ghost use Rattle.s66_model.specs.{chain_in, loads_in, link_in, load_problem, multiply_problem};
 ghost use Rattle.s66_model.specs.Examples as examples;
 
 /// A leaf that may stand at a beginning is at most the total of every legal order that begins so.

@@ -1,11 +1,8 @@
 //! Laws and examples of legal orders: as permutations that keep each dependence, and number by number by what is ready (`order_law`).
 
 ghost use Rattle.std.specs.Prelude.{ℕ, List, ◌≡◌, ◌↔◌, [], ◌∷◌};
-ghost use Rattle.s66_isa.specs.declared.instr.Instr.{Instr};
-ghost use Rattle.s66_isa.specs.Lists.{has};
-ghost use Rattle.s66_isa.specs.Table.{numbers};
-ghost use Rattle.s66_model.specs.LegalOrder.{IsLegal, IsOrder, IsFront, IsBeginning, ready, remaining, sum_remaining};
-ghost use Rattle.s66_model.specs.Examples.{one_load};
+ghost use Rattle.s66_isa.specs.{Instr, has, numbers};
+ghost use Rattle.s66_model.specs.{IsLegal, IsOrder, IsFront, IsBeginning, ready, remaining, sum_remaining, one_load};
 
 /// A permutation that keeps each dependent pair in order is a list of numbers each of which is ready when it comes.
 pub fn order_law()

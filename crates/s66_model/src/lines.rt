@@ -2,9 +2,8 @@
 //! and a byte a number. `s66_ledger` and `s66_deep` write them, `s66_cert` prints and reads them, `s66_checker` walks over them.
 
 ghost use Rattle.std.specs.Prelude.{◌≡◌, ◌<◌, ◌+◌, ◌∷◌, drop, length};
-ghost use Rattle.s66_isa.specs.Lists.{some_of};
-ghost use Rattle.s66_model.specs.Lines.{vertex_of};
-ghost use Rattle.s66_model.specs.Marks.{is_dominated, vertices_of, AreKeptLines};
+ghost use Rattle.s66_isa.specs.{some_of};
+ghost use Rattle.s66_model.specs.{vertex_of, is_dominated, vertices_of, AreKeptLines};
 
 use s66_isa::Kind;
 use std::alloc::{AllocError, Global};
@@ -60,8 +59,7 @@ pub(crate) enum Mark {
 
 impl Mark {
     ghost use Rattle.std.specs.Prelude.{◌≡◌, length};
-    ghost use Rattle.s66_model.specs.Lines.{vertex_of};
-    ghost use Rattle.s66_model.specs.Marks.{number_count, is_dominated, marked};
+    ghost use Rattle.s66_model.specs.{vertex_of, number_count, is_dominated, marked};
 
     /// How many numbers its line has.
     fn number_count(self) -> usize
@@ -153,10 +151,7 @@ impl Model for KeptLines {
 
 impl KeptLines {
     ghost use Rattle.std.specs.Prelude.{◌≡◌, ◌<◌, ◌+◌, ◌++◌, [], ◌∷◌, drop, length, OnOk, OnErr};
-    ghost use Rattle.s66_model.specs.Trees.{AtTerminal};
-    ghost use Rattle.s66_model.specs.DominatedLeaves.{Factual};
-    ghost use Rattle.s66_model.specs.Lines.{fact_leaf_of, vertex_of, IsShort, has_dominated_line};
-    ghost use Rattle.s66_model.specs.Marks.{number_count, marked};
+    ghost use Rattle.s66_model.specs.{AtTerminal, Factual, fact_leaf_of, vertex_of, IsShort, has_dominated_line, number_count, marked};
 
     /// No lines.
     fn new(alloc: Global) -> KeptLines
@@ -282,7 +277,7 @@ impl Model for Tree {
 
 impl Tree {
     ghost use Rattle.std.specs.Prelude.{◌==◌, ◌≡◌, ◌++◌, [], ◌∷◌, length, OnOk, OnErr};
-    ghost use Rattle.s66_model.specs.Lines.{vertex_of, IsShort, has_dominated_line};
+    ghost use Rattle.s66_model.specs.{vertex_of, IsShort, has_dominated_line};
 
     /// No lines.
     pub fn new(alloc: Global) -> Tree
@@ -357,7 +352,7 @@ impl<'a> Model for TreeLines<'a> {
 }
 
 impl<'a> TreeLines<'a> {
-    ghost use Rattle.s66_model.specs.Lines.{IsNextLine};
+    ghost use Rattle.s66_model.specs.{IsNextLine};
 
     /// The next line, if there is one.
     pub fn next(&mut self) -> Option<TreeLine<'a>>

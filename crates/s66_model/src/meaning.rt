@@ -2,11 +2,9 @@
 //! (`meaning_law`).
 
 ghost use Rattle.std.specs.Prelude.{ℕ, List, ◌≡◌, [], ◌∷◌, true, false, ◌≢◌};
-ghost use Rattle.s66_isa.specs.declared.instr.Instr.{Instr};
-ghost use Rattle.s66_isa.specs.Table.{instr, a_reg, b_reg, x_reg};
-ghost use Rattle.s66_model.specs.LegalOrder.{IsLegal};
-ghost use Rattle.s66_model.specs.Meaning.{KeepsMeaning, Zero, Initial, Loaded, InitialStorage, Stored, meaning};
-ghost use Rattle.s66_model.specs.Examples.{parts, Differs, no_constants, register_at_end, storage_at_end, first_result, second_result, a_plus_b};
+ghost use Rattle.s66_isa.specs.{Instr, instr, a_reg, b_reg, x_reg};
+ghost use Rattle.s66_model.specs.{IsLegal, KeepsMeaning, Zero, Initial, Loaded, InitialStorage, Stored, meaning, parts, Differs, no_constants, register_at_end, storage_at_end, first_result};
+ghost use Rattle.s66_model.specs.{second_result, a_plus_b};
 ghost use Rattle.s66_model.specs.Examples as examples;
 
 /// Every legal order of a block leaves in all registers and in memory what the source order leaves, whatever the texts of

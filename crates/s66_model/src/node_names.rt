@@ -1,11 +1,8 @@
 //! Examples of the nodes of a tree by their names, the numbers of their prefixes.
 
 ghost use Rattle.std.specs.Prelude.{◌≡◌, [], ◌∷◌, Some, None, true, false};
-ghost use Rattle.s66_isa.specs.declared.instr.Kind.TheVariants.{Boolean};
-ghost use Rattle.s66_model.specs.Leaves.{Whole, Chain, Load, Parcels};
-ghost use Rattle.s66_model.specs.Trees.{Alone, Parted, NoMore, Unsplit, AtTerminal, AtSplit};
-ghost use Rattle.s66_model.specs.NodeNames.{node_named, is_node};
-ghost use Rattle.s66_model.specs.Examples.{load_tree};
+ghost use Rattle.s66_isa.specs.{Boolean};
+ghost use Rattle.s66_model.specs.{Whole, Chain, Load, Parcels, Alone, Parted, NoMore, Unsplit, AtTerminal, AtSplit, node_named, is_node, load_tree};
 
 /// Which node a name leads to.
 pub fn node_name_examples()

@@ -1,9 +1,7 @@
 //! Laws and examples of packing: in which parcel of a word of 60 bits each instruction of an order begins.
 
 ghost use Rattle.std.specs.Prelude.{ℕ, List, map, reverse, ◌≡◌, [], ◌∷◌};
-ghost use Rattle.s66_model.specs.Packing.{parcels_from, len_at};
-ghost use Rattle.s66_model.specs.Timing.{Problem, Point, points_of, total_of, next};
-ghost use Rattle.s66_model.specs.Examples.{standard_problem, times_of, parcels_in, fillers_in, packing_gap, two_gaps};
+ghost use Rattle.s66_model.specs.{parcels_from, len_at, Problem, Point, points_of, total_of, next, standard_problem, times_of, parcels_in, fillers_in, packing_gap, two_gaps};
 
 /// The parcels of an order's points are those of its packing.
 pub fn packing_law()

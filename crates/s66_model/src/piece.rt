@@ -1,12 +1,8 @@
 //! Examples of pieces: what one expansion makes, a tree over a prefix with leaves and a frontier of prefixes that are still open.
 
 ghost use Rattle.std.specs.Prelude.{[], ◌∷◌};
-ghost use Rattle.s66_isa.specs.declared.instr.Kind.TheVariants.{Multiply};
-ghost use Rattle.s66_model.specs.declared.rule.Rule.TheVariants.{NoneNamed};
-ghost use Rattle.s66_model.specs.Leaves.{Load, Parcels};
-ghost use Rattle.s66_model.specs.Trees.{Alone};
-ghost use Rattle.s66_model.specs.Piece.{Carries, Frontier, IsPiece};
-ghost use Rattle.s66_model.specs.Examples.{load_problem, multiply_problem, load_piece, one_split, child_omitted};
+ghost use Rattle.s66_isa.specs.{Multiply};
+ghost use Rattle.s66_model.specs.{NoneNamed, Load, Parcels, Alone, Carries, Frontier, IsPiece, load_problem, multiply_problem, load_piece, one_split, child_omitted};
 
 /// What pieces of a prefix are.
 pub fn piece_examples()

@@ -1,16 +1,10 @@
 //! Laws and examples of trees by their vertices in preorder, as a certificate lists them.
 
 ghost use Rattle.std.specs.Prelude.{ℕ, List, ◌≡◌, [], ◌∷◌};
-ghost use Rattle.s66_isa.specs.declared.instr.Kind.TheVariants.{Boolean};
-ghost use Rattle.s66_model.specs.declared.rule.Rule.{Rule};
-ghost use Rattle.s66_model.specs.Timing.{Problem};
-ghost use Rattle.s66_model.specs.Leaves.{Whole, Chain, Load};
-ghost use Rattle.s66_model.specs.Trees.{Tree, Alone, Parted, NoMore, Unsplit, Split, Vertex, AtTerminal, AtSplit, flat_siblings, flat};
-ghost use Rattle.s66_model.specs.DominatedLeaves.{Ending, ShowsBy};
-ghost use Rattle.s66_model.specs.Piece.{Terminal, IsPiece};
-ghost use Rattle.s66_model.specs.Answer.{Answer, IsAnswer};
-ghost use Rattle.s66_model.specs.Preorder.{forest, read_tree, TreeMatches};
-ghost use Rattle.s66_model.specs.Examples.{load_tree};
+ghost use Rattle.s66_isa.specs.{Boolean};
+ghost use Rattle.s66_model.specs.{Rule, Problem, Whole, Chain, Load, Tree, Alone, Parted, NoMore, Unsplit, Split, Vertex, AtTerminal, AtSplit, flat_siblings, flat, Ending, ShowsBy, Terminal, IsPiece};
+ghost use Rattle.s66_model.specs.{IsAnswer, forest, read_tree, TreeMatches, load_tree};
+ghost use Rattle.s66_model.specs.Answer.{Answer};
 
 /// Every list of vertices is that of the trees that it is read as. A tree whose splits have a child for each number is read again
 /// from its vertices, and no other such tree has them. Trees of pieces and answers, and trees that show a bound, are such.

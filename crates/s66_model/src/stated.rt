@@ -1,14 +1,9 @@
 //! Laws and examples of trees that have of each leaf only the value or the name.
 
 ghost use Rattle.std.specs.Prelude.{ℕ, List, ◌≡◌, [], ◌∷◌};
-ghost use Rattle.s66_model.specs.declared.rule.Rule.{Rule};
-ghost use Rattle.s66_model.specs.declared.rule.Rule.TheVariants.{NoneNamed};
-ghost use Rattle.s66_model.specs.Timing.{Problem};
-ghost use Rattle.s66_model.specs.Trees.{Tree, Alone, Parted, NoMore, Unsplit, Split, TreeHolds, splits, split_at, tree_values};
-ghost use Rattle.s66_model.specs.Preorder.{TreeMatches};
-ghost use Rattle.s66_model.specs.Piece.{TerminalHolds, IsPiece};
-ghost use Rattle.s66_model.specs.Stated.{Stated, StatedLeaf, StatedFrontier, IsStatedTree, stated_values, terminal_floors, terminal_of, tree_stated};
-ghost use Rattle.s66_model.specs.Examples.{load_problem, load_piece};
+ghost use Rattle.s66_model.specs.{Rule, NoneNamed, Problem, Tree, Alone, Parted, NoMore, Unsplit, Split, TreeHolds, splits, split_at, tree_values, TreeMatches, TerminalHolds, IsPiece, StatedLeaf};
+ghost use Rattle.s66_model.specs.{StatedFrontier, IsStatedTree, stated_values, terminal_floors, terminal_of, tree_stated, load_problem, load_piece};
+ghost use Rattle.s66_model.specs.Stated.{Stated};
 
 /// A tree of true values over a prefix stands for a piece, with the same splits at the same prefixes, and its values are those
 /// of the floors.

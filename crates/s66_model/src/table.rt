@@ -1,14 +1,8 @@
 //! Laws and examples of the instruction table: what timing sees of each operation, and the standard profile.
 
 ghost use Rattle.std.specs.Prelude.{[], ◌∷◌, ◌≡◌, map, replicate};
-ghost use Rattle.s66_isa.specs.declared.instr.Instr.{Instr};
-ghost use Rattle.s66_isa.specs.declared.instr.Kind.{Kind};
-ghost use Rattle.s66_isa.specs.declared.instr.Memory.{Memory};
-ghost use Rattle.s66_isa.specs.declared.profile.Profile.{Profile};
-ghost use Rattle.s66_isa.specs.Lists.{rising};
-ghost use Rattle.s66_isa.specs.Rows.{IsInRange};
-ghost use Rattle.s66_isa.specs.Table.{instr, row, register_latency, writes_of, hold_of, standard, copies_of, all_kinds, a_reg, b_reg, x_reg};
-ghost use Rattle.s66_model.specs.Examples.{uneven_profile, held_write, loaded_write, table_row};
+ghost use Rattle.s66_isa.specs.{Instr, Kind, Memory, Profile, rising, IsInRange, instr, row, register_latency, writes_of, hold_of, standard, copies_of, all_kinds, a_reg, b_reg, x_reg};
+ghost use Rattle.s66_model.specs.{uneven_profile, held_write, loaded_write, table_row};
 
 /// Every instruction under every profile has 1 or 2 parcels, times of 1 to 100, and a unit that holds a result for its whole
 /// hold. What timing sees of its results are those of the table.

@@ -1,16 +1,10 @@
 //! Laws and examples of static tails: a floor by what is known of each number before anything is placed, and the chain that is printed.
 
-ghost use Rattle.std.specs.Prelude.{ℕ, List, length, get_or, max, true, ◌+◌, ◌-◌, ◌*◌, ◌≡◌, ◌≤◌, [], ◌∷◌};
-ghost use Rattle.std.specs.List.{filter};
-ghost use Rattle.s66_isa.specs.declared.instr.Kind.{Kind};
-ghost use Rattle.s66_isa.specs.declared.reg.Reg.{Reg};
-ghost use Rattle.s66_isa.specs.Lists.{greatest, least, weigh};
-ghost use Rattle.s66_isa.specs.Table.{numbers, a_reg, x_reg};
-ghost use Rattle.s66_model.specs.Timing.{Problem, row_at, copies, points_of, next};
-ghost use Rattle.s66_model.specs.LegalOrder.{is_remaining, remaining, sum_remaining, IsBeginning, IsIncomplete};
-ghost use Rattle.s66_model.specs.Leaves.{Leaf, MayStand, tail, is_linked, head, links_from, longest, longest_walk, longest_chain, chain, rest_busy, work_of, over, load, parcels, value, after_chain, floor_value};
-ghost use Rattle.s66_model.specs.Tails.{longest_tail, walk_to, tail_remaining, chain_by, HasLate, HasWritten, walk_next, walk_after, chain_front, spare, HasWords};
-ghost use Rattle.s66_model.specs.Examples.{standard_problem, load_problem, tails_in};
+ghost use Rattle.std.specs.Prelude.{ℕ, List, length, get_or, max, true, ◌+◌, ◌-◌, ◌*◌, ◌≡◌, ◌≤◌, [], ◌∷◌, filter};
+ghost use Rattle.s66_isa.specs.{Kind, Reg, greatest, least, weigh, numbers, a_reg, x_reg};
+ghost use Rattle.s66_model.specs.{Problem, row_at, copies, points_of, next, is_remaining, remaining, sum_remaining, IsBeginning, IsIncomplete, Leaf, MayStand, tail, is_linked, head, links_from};
+ghost use Rattle.s66_model.specs.{longest, longest_walk, longest_chain, chain, rest_busy, work_of, over, load, parcels, value, after_chain, floor_value, longest_tail, walk_to, tail_remaining};
+ghost use Rattle.s66_model.specs.{chain_by, HasLate, HasWritten, walk_next, walk_after, chain_front, spare, HasWords, standard_problem, load_problem, tails_in};
 ghost use Rattle.s66_model.specs.Examples as examples;
 
 /// The longest tail of a number that remains is the same after every beginning: the greatest chain is the greatest head with

@@ -1,11 +1,8 @@
 //! Laws and examples of timing: when each instruction of an order issues, starts and is done, and what the order takes.
 
 ghost use Rattle.std.specs.Prelude.{ℕ, List, length, ◌*◌, ◌≡◌, ◌≤◌, ◌↔◌, [], ◌∷◌};
-ghost use Rattle.s66_isa.specs.Table.{Row, instr};
-ghost use Rattle.s66_model.specs.Timing.{Problem, Point, IsIssue, issue_of, points_of, total_of, next};
-ghost use Rattle.s66_model.specs.Answer.{source_time};
-ghost use Rattle.s66_model.specs.WrittenOrder.{written_in};
-ghost use Rattle.s66_model.specs.Examples.{standard_problem, times_of};
+ghost use Rattle.s66_isa.specs.{Row, instr};
+ghost use Rattle.s66_model.specs.{Problem, Point, IsIssue, issue_of, points_of, total_of, next, source_time, written_in, standard_problem, times_of};
 ghost use Rattle.s66_model.specs.Examples as examples;
 
 /// The issue of an instruction is the least time, at least its slot, at which a unit is free and no result is to come.

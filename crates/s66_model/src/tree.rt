@@ -2,13 +2,11 @@
 //! are in `dominated_leaves.rt`.
 
 ghost use Rattle.std.specs.Prelude.{ℕ, List, ◌≡◌, ◌≤◌, [], ◌∷◌, ◌++◌};
-ghost use Rattle.s66_isa.specs.declared.instr.Kind.TheVariants.{Boolean, Multiply};
-ghost use Rattle.s66_model.specs.Timing.{Problem, total_of};
-ghost use Rattle.s66_model.specs.LegalOrder.{IsLegal};
-ghost use Rattle.s66_model.specs.BestAndBound.{IsBound};
-ghost use Rattle.s66_model.specs.Leaves.{Leaf, leaf_values, Whole, Chain, Load, Parcels};
-ghost use Rattle.s66_model.specs.Trees.{Tree, Shows, Alone, Parted, NoMore, Unsplit, Split, splits, split_at, tree_values, AtTerminal, AtSplit, flat_siblings, flat};
-ghost use Rattle.s66_model.specs.Examples.{load_problem, multiply_problem, both_orders, every_order, all_but_one, one_omitted, load_tree, load_orders, children, one_split, child_omitted};
+ghost use Rattle.s66_isa.specs.{Boolean, Multiply};
+ghost use Rattle.s66_model.specs.{Problem, total_of, IsLegal, IsBound, Leaf, leaf_values, Whole, Chain, Load, Parcels, Tree, Shows, Alone, Parted, NoMore, Unsplit, Split, splits, split_at};
+ghost use Rattle.s66_model.specs.{tree_values, AtTerminal, AtSplit, flat_siblings, flat, load_problem, multiply_problem, both_orders, every_order, all_but_one, one_omitted, load_tree, load_orders};
+ghost use Rattle.s66_model.specs.{one_split, child_omitted};
+ghost use Rattle.s66_model.specs.Examples.{children};
 
 /// What a tree shows over a prefix is at most the total of every legal order that begins with it; over the empty prefix it is
 /// a bound.

@@ -1,14 +1,10 @@
 //! Laws and examples of accounts: what a history holds of each worker, and what a worker's seat keeps of a ledger.
 
 ghost use Rattle.std.specs.Prelude.{ℕ, List, ◌≡◌, ◌≢◌, ◌≤◌, [], ◌∷◌, ◌++◌, length, true, false, Some, None};
-ghost use Rattle.s66_isa.specs.Lists.{weigh};
-ghost use Rattle.s66_model.specs.declared.rule.Rule.{Rule};
-ghost use Rattle.s66_model.specs.declared.rule.Rule.TheVariants.{NoneNamed};
-ghost use Rattle.s66_model.specs.Timing.{Problem};
-ghost use Rattle.s66_model.specs.LedgerRuns.{Ledger, Event, Reply, Step, Run, worker, Open, Out, Graft, Offer, Back, Claimed, Taken, NotOut, Lower, NotLower, OtherBlock, opening};
-ghost use Rattle.s66_model.specs.Accounts.{Claims, Grafts, Offers, GivesBack, brief, account_of, counted, no_account, Summary, summary_of, SeatRecord, Agrees, opened, after_event, after_reading};
-ghost use Rattle.s66_model.specs.Examples.{load_problem, multiply_problem};
-ghost use Rattle.s66_model.specs.LedgerExamples.{ledger_events, root_split};
+ghost use Rattle.s66_isa.specs.{weigh};
+ghost use Rattle.s66_model.specs.{Rule, NoneNamed, Problem, Ledger, Event, Reply, Step, Run, worker, Open, Out, Graft, Offer, Back, Claimed, Taken, NotOut, Lower, NotLower, OtherBlock, opening};
+ghost use Rattle.s66_model.specs.{Claims, Grafts, Offers, GivesBack, brief, account_of, counted, no_account, Summary, summary_of, SeatRecord, Agrees, opened, after_event, after_reading, load_problem};
+ghost use Rattle.s66_model.specs.{multiply_problem, ledger_events, root_split};
 
 /// An entry more counts for its worker alone; no worker has more entries than there are; and the splits of all accounts add up to
 /// what is spent.

@@ -2,21 +2,10 @@
 //! (`coverage_law`).
 
 ghost use Rattle.std.specs.Prelude.{ℕ, List, ◌≡◌, [], ◌∷◌, ◌++◌, true, false};
-ghost use Rattle.s66_isa.specs.declared.instr.Kind.TheVariants.{Boolean, Multiply};
-ghost use Rattle.s66_isa.specs.Lists.{tally};
-ghost use Rattle.s66_model.specs.declared.rule.Rule.{Rule};
-ghost use Rattle.s66_model.specs.declared.rule.Rule.TheVariants.{NoneNamed};
-ghost use Rattle.s66_model.specs.Timing.{Problem};
-ghost use Rattle.s66_model.specs.BestAndBound.{IsBound};
-ghost use Rattle.s66_model.specs.Leaves.{Whole, Chain, Load};
-ghost use Rattle.s66_model.specs.Trees.{Alone};
-ghost use Rattle.s66_model.specs.Piece.{Carries};
-ghost use Rattle.s66_model.specs.DominatedLeaves.{Bounding};
-ghost use Rattle.s66_model.specs.LedgerRuns.{Ledger, Event, Reply, Step, Run, opening, Open, Out, Cut, Closed, after_graft};
-ghost use Rattle.s66_model.specs.NodeTable.{IsTable};
-ghost use Rattle.s66_model.specs.Coverage.{Covers, NeverRises, bound_of, begins, covers, live_floors, IsFinished};
-ghost use Rattle.s66_model.specs.Examples.{standard_problem, one_boolean, load_problem, multiply_problem, answer, every_order};
-ghost use Rattle.s66_model.specs.LedgerExamples.{node, ledger, first_node, root_split, without_grants, load_out, load_grafted};
+ghost use Rattle.s66_isa.specs.{Boolean, Multiply, tally};
+ghost use Rattle.s66_model.specs.{Rule, NoneNamed, Problem, IsBound, Whole, Chain, Load, Alone, Carries, Bounding, Ledger, Event, Reply, Step, Run, opening, Open, Out, Cut, Closed, after_graft};
+ghost use Rattle.s66_model.specs.{IsTable, Covers, NeverRises, bound_of, begins, covers, live_floors, IsFinished, standard_problem, one_boolean, load_problem, multiply_problem, answer, every_order};
+ghost use Rattle.s66_model.specs.{node, ledger, first_node, root_split, without_grants, load_out, load_grafted};
 
 /// A ledger that was only opened covers every legal order.
 pub fn opening_law()

@@ -2,20 +2,11 @@
 //! that it then is.
 
 ghost use Rattle.std.specs.Prelude.{ℕ, List, ◌≡◌, [], ◌∷◌, true, false};
-ghost use Rattle.s66_isa.specs.declared.instr.Kind.TheVariants.{Multiply};
-ghost use Rattle.s66_model.specs.declared.rule.Rule.{Rule};
-ghost use Rattle.s66_model.specs.Timing.{Problem};
-ghost use Rattle.s66_model.specs.Leaves.{Whole, Chain, Load};
-ghost use Rattle.s66_model.specs.Trees.{Alone, Parted, NoMore, Unsplit, Split};
-ghost use Rattle.s66_model.specs.Piece.{Carries};
-ghost use Rattle.s66_model.specs.DominatedLeaves.{Bounding, tree_bounding};
-ghost use Rattle.s66_model.specs.LedgerRuns.{Ledger, Event, Reply, Run, opening, Open, Out, Cut, Closed, after_graft};
-ghost use Rattle.s66_model.specs.Coverage.{IsFinished};
-ghost use Rattle.s66_model.specs.Reached.{IsReached};
-ghost use Rattle.s66_model.specs.NodeTree.{is_split_at, node_tree};
-ghost use Rattle.s66_model.specs.Ended.{IsEnded, ended_answer};
-ghost use Rattle.s66_model.specs.Examples.{boolean_problem, load_problem, multiply_problem, answer, every_order, load_tree, children, one_split};
-ghost use Rattle.s66_model.specs.LedgerExamples.{node, ledger, first_node, root_split, second_split, without_grants, load_grafted, loose_split};
+ghost use Rattle.s66_isa.specs.{Multiply};
+ghost use Rattle.s66_model.specs.{Rule, Problem, Whole, Chain, Load, Alone, Parted, NoMore, Unsplit, Split, Carries, Bounding, tree_bounding, Ledger, Event, Reply, Run, opening, Open, Out, Cut};
+ghost use Rattle.s66_model.specs.{Closed, after_graft, IsFinished, IsReached, is_split_at, node_tree, IsEnded, ended_answer, boolean_problem, load_problem, multiply_problem, answer, every_order};
+ghost use Rattle.s66_model.specs.{load_tree, one_split, node, ledger, first_node, root_split, second_split, without_grants, load_grafted, loose_split};
+ghost use Rattle.s66_model.specs.Examples.{children};
 
 /// However a ledger was reached, and whatever steps went on from it: if these have ended, the answer that the last state is
 /// finishes the ledger with which they began.

@@ -1,16 +1,9 @@
 //! Laws and examples of expansions: pieces that are grown while a best time is in hand, which may fall.
 
 ghost use Rattle.std.specs.Prelude.{ℕ, List, ◌≡◌, ◌≤◌, ◌<◌, [], ◌∷◌, Some, None};
-ghost use Rattle.s66_isa.specs.declared.instr.Kind.TheVariants.{Multiply};
-ghost use Rattle.s66_model.specs.declared.rule.Rule.{Rule};
-ghost use Rattle.s66_model.specs.declared.rule.Rule.TheVariants.{NoneNamed};
-ghost use Rattle.s66_model.specs.Timing.{Problem};
-ghost use Rattle.s66_model.specs.LegalOrder.{IsIncomplete};
-ghost use Rattle.s66_model.specs.Leaves.{Whole, Chain, Load, Parcels, floor_value};
-ghost use Rattle.s66_model.specs.Trees.{Tree, Alone, Parted, NoMore, Unsplit, splits};
-ghost use Rattle.s66_model.specs.Piece.{Terminal, Carries, Frontier, IsPiece};
-ghost use Rattle.s66_model.specs.Expansion.{IsExpansion, IsBestWhole, whole_orders};
-ghost use Rattle.s66_model.specs.Examples.{load_problem, multiply_problem, load_piece, one_split, child_omitted, every_order, load_orders};
+ghost use Rattle.s66_isa.specs.{Multiply};
+ghost use Rattle.s66_model.specs.{Rule, NoneNamed, Problem, IsIncomplete, Whole, Chain, Load, Parcels, floor_value, Tree, Alone, Parted, NoMore, Unsplit, splits, Terminal, Carries, Frontier, IsPiece};
+ghost use Rattle.s66_model.specs.{IsExpansion, IsBestWhole, whole_orders, load_problem, multiply_problem, load_piece, one_split, child_omitted, every_order, load_orders};
 
 /// An expansion is a piece, whatever the best time does meanwhile. Its prefix is split if one split is allowed, it is incomplete and
 /// its floor is below the last best time.

@@ -1,21 +1,10 @@
 //! Laws and examples of histories of the ledger: their fronts, the states to which they lead, and what their entries record and spend.
 
 ghost use Rattle.std.specs.Prelude.{ℕ, List, ◌≡◌, ◌≤◌, [], ◌∷◌, ◌++◌, true, false, Some, None};
-ghost use Rattle.s66_isa.specs.Lists.{weigh, rising};
-ghost use Rattle.s66_model.specs.declared.rule.Rule.{Rule};
-ghost use Rattle.s66_model.specs.declared.rule.Rule.TheVariants.{NoneNamed, WrittenEarlier};
-ghost use Rattle.s66_model.specs.Timing.{Problem};
-ghost use Rattle.s66_model.specs.Trees.{Tree, splits};
-ghost use Rattle.s66_model.specs.Piece.{Terminal, Frontier};
-ghost use Rattle.s66_model.specs.Answer.{source_time};
-ghost use Rattle.s66_model.specs.LedgerRuns.{Ledger, Event, Reply, Step, Run, opening, best_time, Graft, Offer, Taken, NotOut, OtherPrefix, OverAllowance};
-ghost use Rattle.s66_model.specs.Coverage.{Covers};
-ghost use Rattle.s66_model.specs.NodeTable.{IsTable};
-ghost use Rattle.s66_model.specs.Reached.{IsReached};
-ghost use Rattle.s66_model.specs.Accounts.{Grafts, brief};
-ghost use Rattle.s66_model.specs.Recorded.{IsGraftOf, IsOfferOf, spends, spent_by};
-ghost use Rattle.s66_model.specs.Examples.{load_problem, multiply_problem, one_split};
-ghost use Rattle.s66_model.specs.LedgerExamples.{ledger_events};
+ghost use Rattle.s66_isa.specs.{weigh, rising};
+ghost use Rattle.s66_model.specs.{Rule, NoneNamed, WrittenEarlier, Problem, Tree, splits, Terminal, Frontier, source_time, Ledger, Event, Reply, Step, Run, opening, best_time, Graft, Offer, Taken};
+ghost use Rattle.s66_model.specs.{NotOut, OtherPrefix, OverAllowance, Covers, IsTable, IsReached, Grafts, brief, IsGraftOf, IsOfferOf, spends, spent_by, load_problem, multiply_problem, one_split};
+ghost use Rattle.s66_model.specs.{ledger_events};
 
 /// The front of a history is one, histories that follow each other are one, and a history leads to one state. What the workers'
 /// entries spend adds up to what was spent.

@@ -1,15 +1,11 @@
 //! Examples of the ledger of a search: which reply an event may have, and to which state it leads.
 
 ghost use Rattle.std.specs.Prelude.{[], ◌∷◌, true, false, Some, None};
-ghost use Rattle.s66_isa.specs.declared.instr.Kind.TheVariants.{Boolean, Multiply};
-ghost use Rattle.s66_model.specs.declared.rule.Rule.TheVariants.{NoneNamed};
-ghost use Rattle.s66_model.specs.Leaves.{Whole, Load};
-ghost use Rattle.s66_model.specs.Trees.{Alone, Parted};
-ghost use Rattle.s66_model.specs.Piece.{Carries, Frontier};
-ghost use Rattle.s66_model.specs.DominatedLeaves.{Bounding};
-ghost use Rattle.s66_model.specs.LedgerRuns.{Step, Run, opening, Open, Out, Closed, Grant, Claim, Graft, Offer, Back, Retire, Granted, Claimed, Taken, NotOut, OtherPrefix, OverAllowance, Lower, NotLower, OtherBlock, Returned, Retired};
-ghost use Rattle.s66_model.specs.Examples.{boolean_problem, load_problem, multiply_problem, load_piece, children, one_split, child_omitted};
-ghost use Rattle.s66_model.specs.LedgerExamples.{node, first_node, root_split, second_split, granted_to_2, without_grants, ledger_events, load_out, load_grafted, NeverAnswers, NeverRuns};
+ghost use Rattle.s66_isa.specs.{Boolean, Multiply};
+ghost use Rattle.s66_model.specs.{NoneNamed, Whole, Load, Alone, Parted, Carries, Frontier, Bounding, Step, Run, opening, Open, Out, Closed, Grant, Claim, Graft, Offer, Back, Retire, Granted, Claimed};
+ghost use Rattle.s66_model.specs.{Taken, NotOut, OtherPrefix, OverAllowance, Lower, NotLower, OtherBlock, Returned, Retired, boolean_problem, load_problem, multiply_problem, load_piece, one_split};
+ghost use Rattle.s66_model.specs.{child_omitted, node, first_node, root_split, second_split, granted_to_2, without_grants, ledger_events, load_out, load_grafted, NeverAnswers, NeverRuns};
+ghost use Rattle.s66_model.specs.Examples.{children};
 
 /// Grants, retirements, and what no worker and no event gets.
 pub fn grant_examples()

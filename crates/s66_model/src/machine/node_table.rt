@@ -1,15 +1,9 @@
 //! Laws and examples of the nodes of the ledger as those of one tree.
 
 ghost use Rattle.std.specs.Prelude.{ℕ, List, [], ◌∷◌};
-ghost use Rattle.s66_model.specs.declared.rule.Rule.{Rule};
-ghost use Rattle.s66_model.specs.declared.rule.Rule.TheVariants.{NoneNamed};
-ghost use Rattle.s66_model.specs.Timing.{Problem};
+ghost use Rattle.s66_model.specs.{Rule, NoneNamed, Problem, Ledger, Event, Reply, Run, opening, Open, Out, Cut, Covers, IsFinished, IsTable, standard_problem, one_boolean, zero_register, load_problem};
+ghost use Rattle.s66_model.specs.{multiply_problem, node, without_grants, loose_split};
 ghost use Rattle.s66_model.specs.Answer.{Answer};
-ghost use Rattle.s66_model.specs.LedgerRuns.{Ledger, Event, Reply, Run, opening, Open, Out, Cut};
-ghost use Rattle.s66_model.specs.Coverage.{Covers, IsFinished};
-ghost use Rattle.s66_model.specs.NodeTable.{IsTable};
-ghost use Rattle.s66_model.specs.Examples.{standard_problem, one_boolean, zero_register, load_problem, multiply_problem};
-ghost use Rattle.s66_model.specs.LedgerExamples.{node, without_grants, loose_split};
 
 /// However the steps of the workers fall, the nodes are those of one tree, and the best order is the source order or faster.
 pub fn node_table_law()

@@ -1,5 +1,7 @@
 //! A ticket: the right to expand one node of a ledger, with the prefix of that node.
 
+ghost use Rattle.std.specs.Prelude.{◌≡◌};
+
 use arrayvec::ArrayVec;
 use s66_isa::BLOCK_LIMIT;
 use std::marker::Model;
@@ -20,8 +22,6 @@ impl Model for Ticket {
 }
 
 impl Ticket {
-    ghost use Rattle.std.specs.Prelude.{◌≡◌};
-
     /// The ticket of a node; a ledger makes it when it hands the node out.
     pub fn new(node: u32, prefix: ArrayVec<u8, BLOCK_LIMIT>) -> Ticket
         ensures { result ≡ record { node = node; prefix = prefix.items } }

@@ -1,14 +1,7 @@
 use Rattle.std.proofs.Common.{rules, ℕ, ◌≤◌, ◌≡◌, [], ◌∷◌, refl, sym, true≢false, arith}
-use Rattle.s66_isa.specs.Lists.{least}
-use Rattle.s66_isa.specs.Table.{row}
-use Rattle.s66_model.specs.Timing.{issue_of, start_of, point}
-use Rattle.s66_model.specs.Dependence.{conflict}
-use Rattle.s66_model.specs.Leaves.{Leaf, Whole, Chain, value}
-use Rattle.s66_model.specs.Trees.{Tree, Alone, TreeHolds, splits, tree_values}
-use Rattle.s66_model.specs.declared.rule.Rule.TheVariants.{NoneNamed}
-use Rattle.s66_model.specs.DominatedLeaves.{Bounding, tree_bounding}
-use Rattle.s66_model.specs.Answer.{MayEnd, ending_values, IsAnswer}
-use Rattle.s66_model.specs.Examples.{one_load, load_problem, answer, load_tree, load_orders}
+use Rattle.s66_isa.specs.{least, row}
+use Rattle.s66_model.specs.{issue_of, start_of, point, conflict, Leaf, Whole, Chain, value, Tree, Alone, TreeHolds, splits, tree_values, NoneNamed, Bounding, tree_bounding, MayEnd, ending_values}
+use Rattle.s66_model.specs.{IsAnswer, one_load, load_problem, answer, load_tree, load_orders}
 use Rattle.s66_model.proofs.LegalOrders.{order-legal}
 use Rattle.s66_model.proofs.answer.answer_examples.Goals as goal
 

@@ -1,12 +1,6 @@
 use Rattle.std.proofs.Common.{rules, ℕ, ◌≤◌, [], ◌∷◌, refl, arith}
-use Rattle.s66_isa.specs.Table.{row}
-use Rattle.s66_model.specs.Timing.{issue_of, start_of, point}
-use Rattle.s66_model.specs.Dependence.{conflict}
-use Rattle.s66_model.specs.LegalOrder.{IsLegal}
-use Rattle.s66_model.specs.BestAndBound.{IsBound}
-use Rattle.s66_model.specs.Leaves.{Chain}
-use Rattle.s66_model.specs.Trees.{Alone}
-use Rattle.s66_model.specs.Examples.{one_load, load_problem}
+use Rattle.s66_isa.specs.{row}
+use Rattle.s66_model.specs.{issue_of, start_of, point, conflict, IsLegal, IsBound, Chain, Alone, one_load, load_problem}
 use Rattle.s66_model.proofs.LegalOrders.{order-legal}
 use Rattle.s66_model.proofs.Remaining.{legal-parts}
 use Rattle.s66_model.proofs.Trees.{tree-sound}

@@ -1,8 +1,6 @@
 use Rattle.std.proofs.Common.{rules, arith, true≢false}
-use Rattle.s66_isa.specs.declared.instr.Kind.TheVariants.{Shift}
-use Rattle.s66_isa.specs.Table.{row, x_reg}
-use Rattle.s66_model.specs.Timing.{issue_of, start_of, point}
-use Rattle.s66_model.specs.Dependence.{conflict}
+use Rattle.s66_isa.specs.{Shift, row, x_reg}
+use Rattle.s66_model.specs.{issue_of, start_of, point, conflict}
 use Rattle.s66_model.proofs.dominance.dominance_examples.Goals as goal
 
 pub returns : goal.returns

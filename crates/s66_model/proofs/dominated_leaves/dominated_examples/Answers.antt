@@ -1,11 +1,7 @@
 use Rattle.std.proofs.Common.{[], ◌∷◌, arith, true≢false, sym}
-use Rattle.s66_isa.specs.Table.{row, x_reg}
-use Rattle.s66_model.specs.declared.rule.Rule.{Rule}
-use Rattle.s66_model.specs.declared.rule.Rule.TheVariants.{NoneNamed, WrittenEarlier, ClampedStanding}
-use Rattle.s66_model.specs.Timing.{issue_of, start_of, point}
-use Rattle.s66_model.specs.Dependence.{conflict}
-use Rattle.s66_model.specs.DominatedLeaves.{ShowsBy}
-use Rattle.s66_model.specs.Examples.{standard_problem, late_reader, late_reader_tree, fourth_bounding, fourth_split}
+use Rattle.s66_isa.specs.{row, x_reg}
+use Rattle.s66_model.specs.{Rule, NoneNamed, WrittenEarlier, ClampedStanding, issue_of, start_of, point, conflict, ShowsBy, standard_problem, late_reader, late_reader_tree, fourth_bounding}
+use Rattle.s66_model.specs.{fourth_split}
 use Rattle.s66_model.proofs.dominated_leaves.dominated_examples.Goals as goal
 
 other_set : (rule : Rule) → ¬ ShowsBy rule (standard_problem late_reader) 0 [] (late_reader_tree (1 ∷ 2 ∷ 4 ∷ []) fourth_bounding)

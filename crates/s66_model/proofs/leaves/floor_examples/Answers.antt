@@ -1,11 +1,6 @@
 use Rattle.std.proofs.Common.{◌≡◌, [], ◌∷◌}
-use Rattle.s66_isa.specs.declared.instr.Kind.TheVariants.{Boolean, Shift, Multiply}
-use Rattle.s66_isa.specs.Table.{row}
-use Rattle.s66_model.specs.Timing.{Problem, issue_of, start_of, point}
-use Rattle.s66_model.specs.Dependence.{conflict}
-use Rattle.s66_model.specs.Leaves.{Leaf, Chain, Load, Parcels, floor}
-use Rattle.s66_model.specs.Floor.{IsFloor}
-use Rattle.s66_model.specs.Examples.{load_problem}
+use Rattle.s66_isa.specs.{Boolean, Shift, Multiply, row}
+use Rattle.s66_model.specs.{Problem, issue_of, start_of, point, conflict, Leaf, Chain, Load, Parcels, floor, IsFloor, load_problem}
 use Rattle.s66_model.proofs.Floors.{floor-is, floor-only}
 use Rattle.s66_model.proofs.leaves.floor_examples.Goals as goal
 

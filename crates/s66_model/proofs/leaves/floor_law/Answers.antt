@@ -1,6 +1,5 @@
 use Rattle.std.proofs.Common.{subst, sym}
-use Rattle.s66_model.specs.Leaves.{floor}
-use Rattle.s66_model.specs.Floor.{IsFloor}
+use Rattle.s66_model.specs.{floor, IsFloor}
 use Rattle.s66_model.proofs.Floors.{floor-is, floor-only}
 use Rattle.s66_model.proofs.leaves.floor_law.Goals as goal
 

@@ -1,5 +1,5 @@
 use Rattle.std.proofs.Common.{rules, [], ◌∷◌, refl, sym, true≢false}
-use Rattle.s66_model.specs.Dependence.{conflict}
+use Rattle.s66_model.specs.{conflict}
 use Rattle.s66_model.proofs.LegalOrders.{order-legal}
 use Rattle.s66_model.proofs.legal_order.order_examples.Goals as goal
 

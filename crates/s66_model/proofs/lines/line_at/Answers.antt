@@ -1,5 +1,5 @@
 use Rattle.std.proofs.Common.{refl, ap, sym, ◌∙◌, ◌+◌, ◌∷◌, drop, length, arith}
-use Rattle.s66_model.specs.Marks.{vertices_of}
+use Rattle.s66_model.specs.{vertices_of}
 use Rattle.s66_model.specs.declared.lines.Mark.TheVariants.{Split}
 use Rattle.s66_model.proofs.Marks.{begin-within, count-within, line-is}
 use Rattle.s66_model.proofs.lines.line_at.Goals as goal

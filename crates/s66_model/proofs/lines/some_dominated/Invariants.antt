@@ -1,6 +1,6 @@
 use Rattle.std.proofs.Common.{◌≡◌, drop}
-use Rattle.s66_isa.specs.Lists.{some_of}
-use Rattle.s66_model.specs.Marks.{is_dominated}
+use Rattle.s66_isa.specs.{some_of}
+use Rattle.s66_model.specs.{is_dominated}
 use Rattle.s66_model.proofs.lines.some_dominated.Given as goal
 
 -- none so far

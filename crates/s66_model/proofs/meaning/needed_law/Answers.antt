@@ -1,7 +1,6 @@
 use Rattle.std.proofs.Common.{◌≡◌, ap}
-use Rattle.s66_isa.specs.declared.reg.Reg.{Reg}
-use Rattle.s66_isa.specs.Table.{x_reg}
-use Rattle.s66_model.specs.Meaning.{Contents}
+use Rattle.s66_isa.specs.{Reg, x_reg}
+use Rattle.s66_model.specs.{Contents}
 use Rattle.s66_model.proofs.meaning.needed_law.Goals as goal
 
 -- two that mean the same hold the same in a register

@@ -1,7 +1,5 @@
 use Rattle.std.proofs.Common.{[]}
-use Rattle.s66_model.specs.DominatedLeaves.{EndingShows}
-use Rattle.s66_model.specs.Answer.{MayEnd}
-use Rattle.s66_model.specs.Piece.{TerminalHolds}
+use Rattle.s66_model.specs.{EndingShows, MayEnd, TerminalHolds}
 use Rattle.s66_model.proofs.Forests.{flat-forest, read-flat, flat-once, tree-match}
 use Rattle.s66_model.proofs.preorder.preorder_law.Goals as goal
 

@@ -1,9 +1,6 @@
 use Rattle.std.proofs.Common.{ℕ, ◌≡◌, List, [], ◌∷◌, refl, sym, ap, ◌∙◌}
-use Rattle.s66_model.specs.declared.rule.Rule.{Rule}
-use Rattle.s66_model.specs.Timing.{Problem}
-use Rattle.s66_model.specs.Trees.{Tree}
-use Rattle.s66_model.specs.Piece.{Terminal, TerminalHolds}
-use Rattle.s66_model.specs.Stated.{Stated, StatedLeaf, StatedFrontier, StatedPassed, StatedHolds, stated_values, terminal_floors, terminal_of, tree_stated}
+use Rattle.s66_model.specs.{Rule, Problem, Tree, Terminal, TerminalHolds, StatedLeaf, StatedFrontier, StatedPassed, StatedHolds, stated_values, terminal_floors, terminal_of, tree_stated}
+use Rattle.s66_model.specs.Stated.{Stated}
 use Rattle.s66_model.proofs.TreesHold.{tree-weaken, values-alike, seen-holds, holds-seen, seen-match, seen-splits, seen-split_at, seen-values}
 use Rattle.s66_model.proofs.stated.stated_law.Goals as goal
 

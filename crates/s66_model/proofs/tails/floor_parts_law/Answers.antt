@@ -1,8 +1,6 @@
 use Rattle.std.proofs.Common.{◌-◌, get_or, refl, sym}
-use Rattle.s66_isa.specs.Lists.{weigh}
-use Rattle.s66_model.specs.Timing.{points_of, next, copies}
-use Rattle.s66_model.specs.LegalOrder.{remaining}
-use Rattle.s66_model.specs.Leaves.{rest_busy}
+use Rattle.s66_isa.specs.{weigh}
+use Rattle.s66_model.specs.{points_of, next, copies, remaining, rest_busy}
 use Rattle.s66_model.proofs.FloorParts.{floor-parts, rest-some, parcels-static, left-sum, leaf-small}
 use Rattle.s66_model.proofs.UnitLoad.{load-parts}
 use Rattle.s66_model.proofs.tails.floor_parts_law.Goals as goal

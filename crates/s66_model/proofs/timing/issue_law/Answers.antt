@@ -1,6 +1,6 @@
-use Rattle.s66_model.proofs.Issue.{issue-is, issue-only}
-use Rattle.s66_model.specs.Timing.{IsIssue}
 use Rattle.std.proofs.Common.{subst, sym}
+use Rattle.s66_model.specs.{IsIssue}
+use Rattle.s66_model.proofs.Issue.{issue-is, issue-only}
 use Rattle.s66_model.proofs.timing.issue_law.Goals as goal
 
 pub returns : goal.returns

@@ -1,5 +1,5 @@
 use Rattle.std.proofs.Common.{refl}
-use Rattle.s66_model.specs.LedgerRuns.{worker}
+use Rattle.s66_model.specs.{worker}
 use Rattle.s66_model.proofs.AccountLaws.{account-own, account-other, events-few, accounts-spent}
 use Rattle.s66_model.proofs.machine.accounts.account_law.Goals as goal
 

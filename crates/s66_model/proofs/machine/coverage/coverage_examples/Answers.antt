@@ -1,13 +1,6 @@
 use Rattle.std.proofs.Common.{rules, ◌≡◌, [], ◌∷◌, refl, sym, inl, true≢false, arith}
-use Rattle.s66_isa.specs.Table.{row}
-use Rattle.s66_isa.specs.declared.instr.Kind.TheVariants.{Boolean, Multiply}
-use Rattle.s66_model.specs.Dependence.{conflict}
-use Rattle.s66_model.specs.Examples.{three_multiplies}
-use Rattle.s66_model.specs.LedgerExamples.{node}
-use Rattle.s66_model.specs.Leaves.{Chain, Load}
-use Rattle.s66_model.specs.DominatedLeaves.{Bounding}
-use Rattle.s66_model.specs.LedgerRuns.{Cut}
-use Rattle.s66_model.specs.Timing.{issue_of, start_of, point}
+use Rattle.s66_isa.specs.{row, Boolean, Multiply}
+use Rattle.s66_model.specs.{conflict, three_multiplies, node, Chain, Load, Bounding, Cut, issue_of, start_of, point}
 use Rattle.s66_model.proofs.LegalOrders.{order-legal}
 use Rattle.s66_model.proofs.machine.coverage.coverage_examples.Goals as goal
 

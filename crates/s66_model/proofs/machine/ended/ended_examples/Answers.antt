@@ -1,16 +1,7 @@
 use Rattle.std.proofs.Common.{ℕ, ◌≡◌, ◌≤◌, ◌⊎◌, true, cond, List, [], ◌∷◌, refl, sym, ap, inl, inr, arith, subst}
-use Rattle.s66_isa.specs.Table.{row}
-use Rattle.s66_isa.specs.Lists.{tally, Among}
-use Rattle.s66_model.specs.Dependence.{conflict}
-use Rattle.s66_model.specs.Timing.{Problem, issue_of, start_of, point}
-use Rattle.s66_model.specs.LegalOrder.{IsIncomplete}
-use Rattle.s66_model.specs.Leaves.{Whole, floor_value}
-use Rattle.s66_model.specs.Piece.{Carries}
-use Rattle.s66_model.specs.DominatedLeaves.{Bounding}
-use Rattle.s66_model.specs.LedgerRuns.{Ledger, Node, Open, Out, Closed, is_live, opening, best_time, after_graft}
-use Rattle.s66_model.specs.Ended.{IsEnded}
-use Rattle.s66_model.specs.Examples.{boolean_problem, load_problem, multiply_problem, every_order}
-use Rattle.s66_model.specs.LedgerExamples.{node, ledger, first_node, root_split, without_grants, load_grafted}
+use Rattle.s66_isa.specs.{row, tally, Among}
+use Rattle.s66_model.specs.{conflict, Problem, issue_of, start_of, point, IsIncomplete, Whole, floor_value, Carries, Bounding, Ledger, Node, Open, Out, Closed, is_live, opening, best_time}
+use Rattle.s66_model.specs.{after_graft, IsEnded, boolean_problem, load_problem, multiply_problem, every_order, node, ledger, first_node, root_split, without_grants, load_grafted}
 use Rattle.s66_model.proofs.machine.ended.ended_examples.Goals as goal
 
 -- of each of these nodes what an ended ledger asks of one

@@ -1,15 +1,6 @@
 use Rattle.std.proofs.Common.{rules, ℕ, ◌<◌, ◌≡◌, List, [], ◌∷◌, sym, subst, inl, inr, refl, ap, arith}
-use Rattle.s66_isa.specs.Lists.{Among}
-use Rattle.s66_isa.specs.Table.{row}
-use Rattle.s66_isa.specs.declared.instr.Kind.TheVariants.{Multiply}
-use Rattle.s66_model.specs.declared.rule.Rule.TheVariants.{NoneNamed}
-use Rattle.s66_model.specs.Timing.{issue_of, start_of, point}
-use Rattle.s66_model.specs.Dependence.{conflict}
-use Rattle.s66_model.specs.Leaves.{Load, floor_value}
-use Rattle.s66_model.specs.Trees.{Tree, Alone, Parted}
-use Rattle.s66_model.specs.Piece.{Terminal, Carries, Frontier, Passed}
-use Rattle.s66_model.specs.Expansion.{IsExpansion}
-use Rattle.s66_model.specs.Examples.{load_problem, multiply_problem}
+use Rattle.s66_isa.specs.{Among, row, Multiply}
+use Rattle.s66_model.specs.{NoneNamed, issue_of, start_of, point, conflict, Load, floor_value, Tree, Alone, Parted, Terminal, Carries, Frontier, Passed, IsExpansion, load_problem, multiply_problem}
 use Rattle.s66_model.proofs.machine.expansion.expansion_examples.Goals as goal
 
 -- the empty prefix is the only one that is split

@@ -1,11 +1,5 @@
 use Rattle.std.proofs.Common.{ℕ, ◌≤◌, ◌<◌, List, ap, arith, inl, inr, refl}
-use Rattle.s66_model.specs.declared.rule.Rule.{Rule}
-use Rattle.s66_model.specs.Timing.{Problem}
-use Rattle.s66_model.specs.LegalOrder.{IsIncomplete}
-use Rattle.s66_model.specs.Leaves.{value, floor_value}
-use Rattle.s66_model.specs.Trees.{Tree, Alone, Parted, splits}
-use Rattle.s66_model.specs.Piece.{Terminal, Carries, Frontier, Passed, TerminalHolds}
-use Rattle.s66_model.specs.Expansion.{TerminalHoldsWhile, IsExpansion}
+use Rattle.s66_model.specs.{Rule, Problem, IsIncomplete, value, floor_value, Tree, Alone, Parted, splits, Terminal, Carries, Frontier, Passed, TerminalHolds, TerminalHoldsWhile, IsExpansion}
 use Rattle.s66_model.proofs.LedgerSteps.{root-stands}
 use Rattle.s66_model.proofs.TreesHold.{tree-weaken}
 use Rattle.s66_model.proofs.machine.expansion.expansion_law.Goals as goal

@@ -1,6 +1,5 @@
 use Rattle.std.proofs.Common.{rules, true, false, refl}
-use Rattle.s66_model.specs.Piece.{Frontier}
-use Rattle.s66_model.specs.Examples.{one_split}
+use Rattle.s66_model.specs.{Frontier, one_split}
 use Rattle.s66_model.proofs.machine.history.recorded_examples.Goals as goal
 
 pub returns-clause-refused : goal.returns-clause-refused

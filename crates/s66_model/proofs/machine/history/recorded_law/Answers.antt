@@ -1,10 +1,6 @@
 use Rattle.std.proofs.Common.{ℕ, ◌≡◌, Bool, true, false, true≢false, List, refl, sym, ap, arith, ◌∙◌}
-use Rattle.s66_model.specs.Timing.{Problem, total_of}
-use Rattle.s66_model.specs.Trees.{Tree, Alone, Parted, Siblings, NoMore, Unsplit, Split, sibling_splits, splits}
-use Rattle.s66_model.specs.Piece.{Terminal}
-use Rattle.s66_model.specs.LedgerRuns.{Offer, Reply, Taken}
-use Rattle.s66_model.specs.Recorded.{IsOwn, SiblingsOpen, TreeOpens, graft_event, spends}
-use Rattle.s66_model.specs.Accounts.{Grafts, brief}
+use Rattle.s66_model.specs.{Problem, total_of, Tree, Alone, Parted, Siblings, NoMore, Unsplit, Split, sibling_splits, splits, Terminal, Offer, Reply, Taken, IsOwn, SiblingsOpen, TreeOpens}
+use Rattle.s66_model.specs.{graft_event, spends, Grafts, brief}
 use Rattle.s66_model.proofs.machine.history.recorded_law.Goals as goal
 
 own-same : (b p : Problem) (own other : Bool) → IsOwn b p own → IsOwn b p other → own ≡ other

@@ -1,7 +1,6 @@
 use Rattle.std.proofs.Common.{rules, [], ◌∷◌, refl, sym, true≢false}
-use Rattle.s66_isa.specs.Table.{row}
-use Rattle.s66_model.specs.Dependence.{conflict}
-use Rattle.s66_model.specs.Timing.{issue_of, start_of, point}
+use Rattle.s66_isa.specs.{row}
+use Rattle.s66_model.specs.{conflict, issue_of, start_of, point}
 use Rattle.s66_model.proofs.LegalOrders.{order-legal}
 use Rattle.s66_model.proofs.machine.ledger.offer_examples.Goals as goal
 

@@ -1,9 +1,6 @@
 use Rattle.std.proofs.Common.{rules, refl}
-use Rattle.s66_isa.specs.Table.{row}
-use Rattle.s66_model.specs.Timing.{issue_of, start_of, point}
-use Rattle.s66_model.specs.Dependence.{conflict}
-use Rattle.s66_model.specs.LedgerRuns.{Open, Out}
-use Rattle.s66_model.specs.LedgerExamples.{first_node, root_split}
+use Rattle.s66_isa.specs.{row}
+use Rattle.s66_model.specs.{issue_of, start_of, point, conflict, Open, Out, first_node, root_split}
 use Rattle.s66_model.proofs.LegalOrders.{order-legal}
 use Rattle.s66_model.proofs.machine.ledger.run_examples.Goals as goal
 

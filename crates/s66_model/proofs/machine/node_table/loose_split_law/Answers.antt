@@ -1,13 +1,6 @@
 use Rattle.std.proofs.Common.{ℕ, ◌≤◌, List, [], ◌∷◌, refl, inl, inr, arith}
-use Rattle.s66_isa.specs.Lists.{Among}
-use Rattle.s66_isa.specs.Table.{row}
-use Rattle.s66_model.specs.Timing.{issue_of, start_of, point}
-use Rattle.s66_model.specs.Dependence.{conflict}
-use Rattle.s66_model.specs.DominatedLeaves.{Ending}
-use Rattle.s66_model.specs.Trees.{Tree, Alone, Parted, Siblings, Unsplit, Split, splits, sibling_splits, split_at, siblings_split_at}
-use Rattle.s66_model.specs.LedgerRuns.{Cut}
-use Rattle.s66_model.specs.Examples.{load_problem}
-use Rattle.s66_model.specs.LedgerExamples.{node}
+use Rattle.s66_isa.specs.{Among, row}
+use Rattle.s66_model.specs.{issue_of, start_of, point, conflict, Ending, Tree, Alone, Parted, Siblings, Unsplit, Split, splits, sibling_splits, split_at, siblings_split_at, Cut, load_problem, node}
 use Rattle.s66_model.proofs.Beginnings.{source-legal}
 use Rattle.s66_model.proofs.LedgerSteps.{open_closed, cut_closed}
 use Rattle.s66_model.proofs.machine.node_table.loose_split_law.Goals as goal

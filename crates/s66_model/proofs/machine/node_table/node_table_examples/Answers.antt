@@ -1,7 +1,5 @@
 use Rattle.std.proofs.Common.{[], ◌∷◌, refl, inl, inr, arith}
-use Rattle.s66_model.specs.Dependence.{conflict}
-use Rattle.s66_model.specs.LedgerRuns.{Cut}
-use Rattle.s66_model.specs.LedgerExamples.{node}
+use Rattle.s66_model.specs.{conflict, Cut, node}
 use Rattle.s66_model.proofs.machine.node_table.node_table_examples.Goals as goal
 
 pub returns-clause-child_missing : goal.returns-clause-child_missing
