@@ -1,17 +1,14 @@
 -- The program's command line, an option or a subcommand at a time.
 use Rattle.std.proofs.Common.{refl, sym, ◌≡◌, ◌∙◌, ◌+◌, ◌<◌, ◌++◌, ℕ, ap, ap₂, Bool, cond, true, false, ◌||◌, List, [], ◌∷◌, Option, Some, option_map, add-one, find, fold, get_or, length, map, take}
-use Rattle.std.specs.Borrow.{Bor}
-use Rattle.std.proofs.Math.Seq.{take-suc}
+use Rattle.std.proofs.Common.{Bor, take-suc}
 use Rattle.std.proofs.lemmas.List.Sums.{fold-append}
 use Rattle.clap.specs.Words.{AddsArg, AddsSubcommand, App, Rule, rule_of, with_rule, with_subcommand}
 use Rattle.clap.specs.declared.builder.arg.Arg.{Arg}
 use Rattle.clap.specs.declared.builder.command.Command.{Command}
 use Rattle.clap.specs.declared.builder.command.Command.TheViews.{out-Command}
 use Rattle.clap.specs.Simple.{app_of_fields}
-use Rattle.s66_command.specs.declared.subcommand.Value.{Value}
-use Rattle.s66_command.specs.declared.subcommand.Work.{Work}
-use Rattle.s66_command.specs.declared.subcommand.Work.TheVariants.{Check, Plain, Search}
-use Rattle.s66_command.specs.Usage.{IsCommandOf, Text, options_by, with_options}
+use Rattle.s66_command.specs.{Value, Work, Plain, Search, IsCommandOf, Text, options_by, with_options}
+use Rattle.s66_command.specs.declared.subcommand.Work.TheVariants.{Check}
 
 pub with-arg : (a : App) (r : Rule) (c new : Command) (arg : Arg) → IsCommandOf a c → rule_of arg ≡ r → arg.global ≡ false → AddsArg c arg new →
     IsCommandOf (with_rule a r) new

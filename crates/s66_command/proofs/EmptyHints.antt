@@ -1,13 +1,10 @@
 -- What is said of a text for a profile is empty exactly if it gives one (`profile_hint`).
-use Rattle.std.proofs.Common.{◌≡◌, ℕ, List, [], ◌∷◌, refl, sym, ap, ◌∙◌}
-use Rattle.std.specs.Prelude.{◌↔◌, if◌then◌else◌, slice_set, Option, Some, None, IsSome, is_none, is_some, option_and_then, option_map}
+use Rattle.std.proofs.Common.{◌≡◌, ℕ, List, [], ◌∷◌, refl, sym, ap, ◌∙◌, ◌↔◌, if◌then◌else◌, slice_set, Option, Some, None, IsSome, is_none, is_some, option_and_then, option_map}
 use Rattle.serde_json.specs.Data.{Data, Members, no_members, member}
 use Rattle.serde_json.specs.Find.{as_object}
 use Rattle.serde_json.specs.Read.{read}
-use Rattle.s66_isa.specs.Profiles.{profile_of}
-use Rattle.s66_isa.specs.Table.{entries, standard}
-use Rattle.s66_command.specs.ProfileHint.{hint_in_members}
-use Rattle.s66_command.specs.ProfileText.{json_of, profile_number, place_of, with_members, profile_numbers, profile_in_text}
+use Rattle.s66_isa.specs.{profile_of, entries, standard}
+use Rattle.s66_command.specs.{hint_in_members, json_of, profile_number, place_of, with_members, profile_numbers, profile_in_text}
 
 -- one member, at what its key and its value give
 step : (place number : Option ℕ) (a b : ℕ) (cs ds rest : List ℕ) (more : ℕ → ℕ → Option (List ℕ)) → ((at n : ℕ) → (rest ≡ []) ↔ IsSome (more at n))

@@ -1,8 +1,7 @@
 -- After words in which clap finds no fault, a flag is true just if it is given.
-use Rattle.std.proofs.Common.{◌≡◌, ◌==◌, ◌⊎◌, ◌∙◌, inl, inr, arith, Bool, cond, true, false, true≢false, List, length, [], ◌∷◌, ◌++◌, Option, Some, None, option_and_then, refl, sym, ap, ap₂, codes, slice_get}
-use Rattle.std.specs.Prelude.{option_map}
 use Rattle.std.specs.Option.{option_map_or}
-use Rattle.std.proofs.lemmas.Bool.{ne_eqb}
+use Rattle.std.proofs.Common.{◌≡◌, ◌==◌, ◌⊎◌, ◌∙◌, inl, inr, arith, Bool, cond, true, false, true≢false, List, length, [], ◌∷◌, ◌++◌, Option, Some, None, option_and_then, refl, sym, ap, ap₂, codes}
+use Rattle.std.proofs.Common.{slice_get, option_map, ne_eqb}
 use Rattle.clap.specs.Words.{Kinds, Row, Rule, Shape, Text, one_of, read_as}
 use Rattle.clap.specs.Simple.{filled}
 use Rattle.clap.specs.Takes.{is_given}
@@ -14,7 +13,7 @@ use Rattle.clap.specs.declared.builder.value_parser.Reading.TheVariants.{AsWritt
 use Rattle.clap.specs.declared.error.kind.ErrorKind.TheVariants.{WrongNumberOfValues}
 use Rattle.clap.specs.declared.parser.matches.ValueSource.{ValueSource}
 use Rattle.clap.specs.declared.parser.matches.ValueSource.TheVariants.{CommandLine, DefaultValue}
-use Rattle.s66_command.specs.Usage.{flag_rule}
+use Rattle.s66_command.specs.{flag_rule}
 use Rattle.s66_command.proofs.Faults.{full}
 use Rattle.s66_command.proofs.OptionRows.{AllGood, AreOptions, IsGoodIfFound, defaults-good, found-good, good-change, good-without, walked-good}
 

@@ -1,8 +1,7 @@
 -- What was found of an option of a subcommand is what the words give.
-use Rattle.std.proofs.Common.{◌≡◌, ◌∙◌, inl, inr, Bool, cond, true, false, true≢false, List, [], ◌∷◌, Option, None, Some, is_some, refl, sym, ap, subst, find, drop, map, bytes_eq, codes, option_and_then, option_map, slice_get}
-use Rattle.std.specs.Prelude.{unwrap_or}
-use Rattle.std.specs.Borrow.{Bor}
 use Rattle.std.specs.Option.{option_map_or}
+use Rattle.std.proofs.Common.{◌≡◌, ◌∙◌, inl, inr, Bool, cond, true, false, true≢false, List, [], ◌∷◌, Option, None, Some, is_some, refl, sym, ap, subst, find, drop, map, bytes_eq, codes}
+use Rattle.std.proofs.Common.{option_and_then, option_map, slice_get, unwrap_or, Bor}
 use Rattle.std.proofs.lemmas.Slice.Eq.{bytes_eq-Decides}
 use Rattle.clap.specs.Words.{Row, Rule, Shape, Text, built, first_of, first_value, one_of, one_text, rows_of, subcommand_of, subcommand_rows_of}
 use Rattle.clap.specs.Takes.{is_given}
@@ -12,8 +11,7 @@ use Rattle.clap.specs.Walk.{answers_to, nothing_held, rows_after}
 use Rattle.clap.specs.declared.parser.matches.ArgMatches.{ArgMatches}
 use Rattle.clap.specs.declared.parser.matches.Found.{Found}
 use Rattle.clap.proofs.WalkLemmas.{first_value-rows, one_text-rows}
-use Rattle.s66_command.specs.FoundOptions.{IsFlagName, IsFoundBy, IsTaken, rule_called}
-use Rattle.s66_command.specs.Usage.{GivesFlag, GivesProfile, Limits, flag_rule, has_value, number_rule, option_text, plain_text, s66_app}
+use Rattle.s66_command.specs.{IsFlagName, IsFoundBy, IsTaken, rule_called, GivesFlag, GivesProfile, Limits, flag_rule, has_value, number_rule, option_text, plain_text, s66_app}
 use Rattle.s66_command.proofs.Flags.{IsFlagOf, flag-is}
 use Rattle.s66_command.proofs.Named.{named}
 use Rattle.s66_command.proofs.OptionRanges.{IsNumber, number-is}

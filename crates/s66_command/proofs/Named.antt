@@ -1,21 +1,22 @@
 -- Words in which clap finds no fault name a subcommand.
-use Rattle.std.proofs.Common.{◌≡◌, ◌⊎◌, inl, inr, ℕ, Bool, cond, true, false, true≢false, ◌||◌, List, [], ◌∷◌, ◌++◌, Option, Some, None, refl, sym, ap, ◌∙◌, subst, Box, box_value, codes, find, fold, drop, is_some, map, option_map, bytes_eq}
 use Rattle.std.specs.List.{list_all, list_any}
 use Rattle.std.specs.Option.{option_map_or}
+use Rattle.std.proofs.Common.{◌≡◌, ◌⊎◌, inl, inr, ℕ, Bool, cond, true, false, true≢false, ◌||◌, List, [], ◌∷◌, ◌++◌, Option, Some, None, refl, sym, ap, ◌∙◌, subst, Box, box_value, codes, find, fold}
+use Rattle.std.proofs.Common.{drop, is_some, map, option_map, bytes_eq}
 use Rattle.std.proofs.lemmas.Slice.Eq.{bytes_eq-Decides}
 use Rattle.clap.specs.Words.{App, HasMatchesOf, Rule, Shape, Text, built, is_simple_and_free, subcommand_name_of, subcommand_of, subcommand_rows}
 use Rattle.clap.specs.declared.parser.matches.ArgMatches.{ArgMatches}
 use Rattle.clap.specs.declared.parser.matches.ArgMatches.TheViews.{out-ArgMatches, out-SubCommand}
 use Rattle.clap.specs.declared.parser.matches.SubCommand.{SubCommand}
-use Rattle.clap.specs.Walk.{Held, Names, Outcome, done, waits, plain, refused, Row, Step, next, trailing, subcommand, value, Waiting, idle, option, positional, Walk, after_flag, after_step, answers_to, arg_by_index, arg_by_long, bundle, finished, is_empty, settled, long_met, long_or_other, nothing_held, plain_word, rows_after, short_or_plain, subcommand_met, subcommand_or_other, to_positional, walk, walk_from, walked, walked_from, word_met}
+use Rattle.clap.specs.Walk.{Held, Names, Outcome, done, waits, plain, refused, Row, Step, next, trailing, subcommand, value, Waiting, idle, option, positional, Walk, after_flag, after_step}
+use Rattle.clap.specs.Walk.{answers_to, arg_by_index, arg_by_long, bundle, finished, is_empty, settled, long_met, long_or_other, nothing_held, plain_word, rows_after, short_or_plain, subcommand_met}
+use Rattle.clap.specs.Walk.{subcommand_or_other, to_positional, walk, walk_from, walked, walked_from, word_met}
 use Rattle.clap.specs.Lexer.{long_of, short_of}
 use Rattle.clap.specs.Simple.{entered, label_of, names_of}
 use Rattle.clap.specs.Faults.{check_fault, defaults_fault, entered_fault, fault_of, level_fault, settle_fault, other_fault, turn_fault, walk_fault, word_fault}
 use Rattle.clap.proofs.SimpleLemmas.{is_nil}
 use Rattle.clap.proofs.WalkLemmas.{both}
-use Rattle.s66_command.specs.FoundOptions.{IsTaken}
-use Rattle.s66_command.specs.Rows.{IsNameOf}
-use Rattle.s66_command.specs.Usage.{Calls, Subcommand, gives_conflict, s66_app, subcommand_name}
+use Rattle.s66_command.specs.{IsTaken, IsNameOf, Calls, Subcommand, gives_conflict, s66_app, subcommand_name}
 use Rattle.s66_command.proofs.Faults.{first-none, full, second-none}
 
 -- A NAME OF A LIST

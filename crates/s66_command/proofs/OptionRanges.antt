@@ -1,7 +1,6 @@
 -- After words without a fault, a subcommand has no value of a number's option, or one within the limits.
-use Rattle.std.proofs.Common.{◌≡◌, ◌∙◌, ◌≤◌, ◌<◌, ◌^◌, ℕ, Bool, cond, true, false, List, [], ◌∷◌, ◌++◌, Option, Some, None, option_and_then, refl, sym, ap, subst, length}
-use Rattle.std.specs.Prelude.{Ok, Result, pos, unwrap_or}
 use Rattle.std.specs.Str.Parse.{ParsesUnsigned}
+use Rattle.std.proofs.Common.{◌≡◌, ◌∙◌, ◌≤◌, ◌<◌, ◌^◌, ℕ, Bool, cond, true, false, List, [], ◌∷◌, ◌++◌, Option, Some, None, option_and_then, refl, sym, ap, subst, length, Ok, Result, pos, unwrap_or}
 use Rattle.clap.specs.Words.{Kinds, ReadsOne, Row, Rule, Shape, Text, one_of, without_minus}
 use Rattle.clap.specs.Simple.{filled}
 use Rattle.clap.specs.Values.{IsSignedIn}
@@ -15,7 +14,7 @@ use Rattle.clap.specs.declared.error.kind.ErrorKind.TheVariants.{ValueValidation
 use Rattle.clap.specs.declared.parser.matches.ValueSource.TheVariants.{CommandLine}
 use Rattle.clap.proofs.CallerReads.{signed_reads}
 use Rattle.clap.proofs.ValueTestLemmas.{accepts-Accepts}
-use Rattle.s66_command.specs.Usage.{IsNumberIn, IsNumberOrDefault, Limits, number_rule}
+use Rattle.s66_command.specs.{IsNumberIn, IsNumberOrDefault, Limits, number_rule}
 use Rattle.s66_command.proofs.Faults.{full, second-none}
 use Rattle.s66_command.proofs.OptionRows.{AllGood, AreOptions, IsGoodIfFound, defaults-good, found-good, good-change, good-without, walked-good}
 

@@ -2,9 +2,8 @@
 use Rattle.std.proofs.Common.{◌≡◌, inl, inr, true, refl, subst, List}
 use Rattle.clap.specs.Words.{App, HasKind, Text, fault_of, is_simple_and_free, kind_of}
 use Rattle.clap.specs.declared.error.Error.{Error}
-use Rattle.s66_command.specs.Usage.{IsUsageOf, Refuses, s66_app}
+use Rattle.s66_command.specs.{IsUsageOf, Refuses, s66_app, Bad, Help, OutOfMemory}
 use Rattle.s66_command.specs.declared.usage.Usage.{Usage}
-use Rattle.s66_command.specs.declared.usage.Usage.TheVariants.{Bad, Help, OutOfMemory}
 
 refused-by : (usage : Usage) (e : Error) (words : List Text) → HasKind (fault_of s66_app words) e → IsUsageOf (kind_of e) usage → Refuses words usage
 refused-by (Help text) e words (inl memory) (inl help) = cc

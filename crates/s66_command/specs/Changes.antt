@@ -1,7 +1,6 @@
 -- To be believed: which numbers of a profile aren't the standard profile's, and the text that names them.
 use Rattle.std.specs.Prelude.{ℕ, suc, if◌then◌else◌, ◌==◌, List, [], ◌∷◌, ◌++◌, codes, decimal, get_or}
-use Rattle.s66_isa.specs.declared.profile.Profile.{Profile}
-use Rattle.s66_isa.specs.Table.{entries, standard}
+use Rattle.s66_isa.specs.{Profile, entries, standard}
 use Rattle.s66_command.specs.ProfileText.{names}
 use Rattle.s66_command.specs.declared.changes.Change.{Change}
 

@@ -1,6 +1,6 @@
 -- To be believed: what a reader of profiles gives: the profile of the text, or that it has none.
 use Rattle.std.specs.Prelude.{◌≡◌, Option, Some, None, Result, Ok, Err}
-use Rattle.s66_isa.specs.declared.profile.Profile.{Profile}
+use Rattle.s66_isa.specs.{Profile}
 use Rattle.s66_command.specs.declared.profile_error.ProfileError.{ProfileError}
 use Rattle.s66_command.specs.declared.profile_error.ProfileError.TheVariants.{BadProfile, OutOfMemory}
 

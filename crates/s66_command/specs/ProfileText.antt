@@ -5,10 +5,7 @@ use Rattle.std.specs.Char.{is_ascii_alphabetic, is_ascii_digit}
 use Rattle.serde_json.specs.Data.{Data, Members, no_members, member}
 use Rattle.serde_json.specs.Find.{as_number, as_object, as_u64}
 use Rattle.serde_json.specs.Read.{read}
-use Rattle.s66_isa.specs.declared.limits.TheConstants.{PROFILE_LIMIT}
-use Rattle.s66_isa.specs.declared.profile.Profile.{Profile}
-use Rattle.s66_isa.specs.Profiles.{profile_of}
-use Rattle.s66_isa.specs.Table.{entries, standard}
+use Rattle.s66_isa.specs.{PROFILE_LIMIT, Profile, profile_of, entries, standard}
 
 -- what the numbers of a profile are called, in their order
 abbrev pub names : List (List ℕ)

@@ -1,8 +1,9 @@
 -- To be believed: the command line, by clap's rules: the subcommands, which options each takes, what words ask for by them, which words are
 -- refused, and which ask for calls that go deep.
-use Rattle.std.specs.Prelude.{◌≡◌, ◌≢◌, ◌⊎◌, ◌≤◌, ◌&&◌, ◌||◌, not, if◌then◌else◌, IfSome, is_some, ℕ, Bool, List, [], ◌∷◌, ◌++◌, fold, find, bytes_eq, false, true, Option, None, Some, codes, option_and_then, pos, map}
+use Rattle.std.specs.Prelude.{◌≡◌, ◌≢◌, ◌⊎◌, ◌≤◌, ◌&&◌, ◌||◌, not, if◌then◌else◌, IfSome, is_some, ℕ, Bool, List, [], ◌∷◌, ◌++◌, fold, find, bytes_eq, false, true, Option, None, Some, codes}
+use Rattle.std.specs.Prelude.{option_and_then, pos, map, option_map}
 use Rattle.std.specs.Borrow.{Bor}
-use Rattle.std.specs.Option.{option_map, option_map_or}
+use Rattle.std.specs.Option.{option_map_or}
 use Rattle.std.specs.Str.Parse.{digits_value, without_leading_plus}
 use Rattle.clap.specs.Words.{App, IsAmong, Rule, app_of, fault_of, first_of, new_app, new_rule, one_of, rule_of, subcommand_of, with_rule, with_subcommand}
 pub use Rattle.clap.specs.Words.{Text}
@@ -14,10 +15,7 @@ use Rattle.clap.specs.declared.builder.command.Command.TheViews.{out-Command}
 use Rattle.clap.specs.declared.builder.value_parser.ValueParser.TheVariants.{Signed}
 use Rattle.clap.specs.declared.error.kind.ErrorKind.{ErrorKind}
 use Rattle.clap.specs.declared.error.kind.ErrorKind.TheVariants as kind
-use Rattle.s66_model.specs.declared.limits.TheConstants.{BUDGET_LIMIT, WORKERS_LIMIT}
-use Rattle.s66_model.specs.declared.options.Options.{Options}
-use Rattle.s66_model.specs.declared.rule.Rule.{Rule as LeafRule}
-use Rattle.s66_model.specs.declared.rule.Rule.TheVariants.{NoneNamed, WrittenEarlier, ClampedStanding}
+use Rattle.s66_model.specs.{BUDGET_LIMIT, WORKERS_LIMIT, Options, Rule as LeafRule, NoneNamed, WrittenEarlier, ClampedStanding}
 use Rattle.s66_command.specs.declared.limits.TheConstants.{BLOCK_NUMBER_LIMIT, NODES_DEFAULT, WORKERS_DEFAULT}
 use Rattle.s66_command.specs.declared.subcommand.TheConstants.{SEARCH, STUDY, SUBCOMMANDS}
 use Rattle.s66_command.specs.declared.subcommand.Value.{Value}

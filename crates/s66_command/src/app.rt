@@ -2,8 +2,7 @@
 
 ghost use Rattle.std.specs.Prelude.{◌≡◌, IfOk};
 ghost use Rattle.clap.specs.Words.{App, app_of, new_app};
-ghost use Rattle.s66_command.specs.Rows.{AreCalledByName, in_row, in_rows};
-ghost use Rattle.s66_command.specs.Usage.{IsArgumentOf, IsCommandOf, app_of_subcommand, named_rule, option_rule, s66_app, with_options};
+ghost use Rattle.s66_command.specs.{AreCalledByName, in_row, in_rows, IsArgumentOf, IsCommandOf, app_of_subcommand, named_rule, option_rule, s66_app, with_options};
 
 use crate::help;
 use crate::subcommand::{OptionRow, SEARCH, STUDY, SUBCOMMANDS, SubcommandRow, Value, Work};

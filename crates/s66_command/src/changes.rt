@@ -3,8 +3,8 @@
 
 ghost use Rattle.std.specs.Prelude.{ℕ, List, [], ◌≡◌, ◌≤◌, ◌++◌, OnOk, get_or, length, map};
 ghost use Rattle.std.specs.Borrow.{Bor};
-ghost use Rattle.s66_isa.specs.declared.limits.TheConstants.{PROFILE_LENGTH};
-ghost use Rattle.s66_command.specs.Changes.{changes, changes_from, changes_text};
+ghost use Rattle.s66_isa.specs.{PROFILE_LENGTH};
+ghost use Rattle.s66_command.specs.{changes, changes_from, changes_text};
 
 use crate::profile::NAMES;
 use arrayvec::ArrayVec;
@@ -32,7 +32,7 @@ fn name_among(names: &[&'static str], place: usize) -> &'static [u8]
 
 impl Change {
     ghost use Rattle.std.specs.Prelude.{◌≡◌};
-    ghost use Rattle.s66_command.specs.Changes.{name_at};
+    ghost use Rattle.s66_command.specs.{name_at};
 
     /// What the number is called.
     pub fn name(&self) -> &'static [u8]

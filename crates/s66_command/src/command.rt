@@ -132,7 +132,7 @@ pub struct SumStyle {
 
 impl Command<'_> {
     ghost use Rattle.std.specs.Prelude.{◌≡◌};
-    ghost use Rattle.s66_command.specs.CommandParts.{reads_cut};
+    ghost use Rattle.s66_command.specs.{reads_cut};
 
     /// Whether it reads a source as with `--cut`: always for `guard`.
     pub fn reads_cut(&self) -> bool
@@ -147,7 +147,7 @@ impl Command<'_> {
 
 impl Asked {
     ghost use Rattle.std.specs.Prelude.{◌≡◌};
-    ghost use Rattle.s66_command.specs.CommandParts.{reads_of, strategy_of};
+    ghost use Rattle.s66_command.specs.{reads_of, strategy_of};
 
     /// How the best orders are looked for that are written, if any are.
     pub fn strategy(self) -> Option<Strategy>

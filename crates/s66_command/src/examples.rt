@@ -2,9 +2,7 @@
 //! text, and the functions do nothing.
 
 ghost use Rattle.std.specs.Prelude.{[], ◌∷◌, ◌≡◌, ◌++◌, Some, None, codes};
-ghost use Rattle.s66_command.specs.ProfileExamples.{standard_but};
-ghost use Rattle.s66_command.specs.ProfileHint.{hint_in_text, wrong_name};
-ghost use Rattle.s66_command.specs.ProfileText.{object_of_list, profile_numbers_in_text};
+ghost use Rattle.s66_command.specs.{standard_but, hint_in_text, wrong_name, object_of_list, profile_numbers_in_text};
 
 /// Texts that give a profile.
 #[tactic(auto, unfolding(serde_json::proofs::OnLiterals::serde_json_on_literals))]

@@ -2,8 +2,7 @@
 
 ghost use Rattle.std.specs.Prelude.{[], ◌≡◌, ◌↔◌, ◌++◌, IfOk, IsSome, codes, string_bytes};
 ghost use Rattle.serde_json.specs.View.{members_view};
-ghost use Rattle.s66_command.specs.ProfileHint.{hint_in_members, hint_in_text, shown, wrong_name};
-ghost use Rattle.s66_command.specs.ProfileText.{profile_in_text};
+ghost use Rattle.s66_command.specs.{hint_in_members, hint_in_text, shown, wrong_name, profile_in_text};
 
 use crate::profile::{number, place, value_of};
 use crate::profile_error::ProfileError;

@@ -2,8 +2,8 @@
 
 ghost use Rattle.std.specs.Prelude.{◌≡◌, IfSome, List, is_some};
 ghost use Rattle.clap.specs.Words.{Text, found_of};
-ghost use Rattle.s66_command.specs.FoundOptions.{IsFlagName, IsFoundBy};
-ghost use Rattle.s66_command.specs.Usage.{GivesBlock, GivesFlag, GivesNodes, GivesOrder, GivesProfile, GivesSearch, GivesWorkers, IsMistake, are_two, gives_conflict, gives_search, has_value, is_one, rule_by, search_flags};
+ghost use Rattle.s66_command.specs.{IsFlagName, IsFoundBy, GivesBlock, GivesFlag, GivesNodes, GivesOrder, GivesProfile, GivesSearch, GivesWorkers, IsMistake, are_two, gives_conflict, gives_search};
+ghost use Rattle.s66_command.specs.{has_value, is_one, rule_by, search_flags};
 
 use crate::limits::{NODES_DEFAULT, WORKERS_DEFAULT};
 use crate::strategy::Strategy;

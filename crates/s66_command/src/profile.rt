@@ -2,12 +2,10 @@
 
 ghost use Rattle.std.specs.Prelude.{◌≡◌, ◌<◌, ◌≤◌, Err, IfOk, IfSome, None, Some, length, option_map};
 ghost use Rattle.serde_json.specs.View.{view};
-ghost use Rattle.s66_isa.specs.Profiles.{profile_of};
-ghost use Rattle.s66_isa.specs.Table.{entries};
-ghost use Rattle.s66_command.specs.ProfileGiven.{Gives};
 ghost use Rattle.serde_json.specs.Read.{read};
-ghost use Rattle.s66_command.specs.ProfileText.{json_of, profile_number, profile_numbers, profile_numbers_in_text, place_of, profile_in_text};
-ghost use Rattle.s66_command.specs.declared.profile_error.ProfileError.TheVariants.{BadProfile, OutOfMemory};
+ghost use Rattle.s66_isa.specs.{profile_of, entries};
+ghost use Rattle.s66_command.specs.{Gives, json_of, profile_number, profile_numbers, profile_numbers_in_text, place_of, profile_in_text, BadProfile};
+ghost use Rattle.s66_command.specs.declared.profile_error.ProfileError.TheVariants.{OutOfMemory};
 
 use crate::profile_error::ProfileError;
 use crate::profile_list::object_of_list;

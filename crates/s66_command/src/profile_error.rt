@@ -40,7 +40,7 @@ impl From<serde_json::Error> for ProfileError {
 
 impl ProfileError {
     ghost use Rattle.std.specs.Prelude.{◌≡◌};
-    ghost use Rattle.s66_command.specs.ProfileRefusals.{profile_refusal_line};
+    ghost use Rattle.s66_command.specs.{profile_refusal_line};
 
     /// The line that reports it, without a newline.
     pub fn line(&self) -> &'static str

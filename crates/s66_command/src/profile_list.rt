@@ -2,7 +2,7 @@
 
 ghost use Rattle.std.specs.Prelude.{◌≡◌, ◌<◌, ◌++◌, IfErr, IfOk, OnOk, length, string_bytes, true};
 ghost use Rattle.std.specs.Option.{option_map_or};
-ghost use Rattle.s66_command.specs.ProfileText.{byte_in_json, is_name_byte, json_of, may_follow};
+ghost use Rattle.s66_command.specs.{byte_in_json, is_name_byte, json_of, may_follow};
 
 use std::alloc::{AllocError, Global};
 

@@ -2,8 +2,7 @@
 //! that search take more. What a call asks for by them is `asked_by` in `usage.rt`, and `AsksBy` in `specs/Usage.antt`.
 
 ghost use Rattle.std.specs.Prelude.{◌≡◌, option_map};
-ghost use Rattle.s66_command.specs.Rows.{in_row};
-ghost use Rattle.s66_command.specs.Usage.{is_deep, subcommand_named};
+ghost use Rattle.s66_command.specs.{in_row, is_deep, subcommand_named};
 
 use crate::help::{help_ending, search_ending};
 use crate::limits::BLOCK_NUMBER_LIMIT;

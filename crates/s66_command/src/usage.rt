@@ -37,7 +37,7 @@ impl From<AllocError> for Usage {
 
 impl Usage {
     ghost use Rattle.std.specs.Prelude.{◌≡◌};
-    ghost use Rattle.s66_command.specs.Usage.{usage_code};
+    ghost use Rattle.s66_command.specs.{usage_code};
 
     /// The status of the process.
     pub fn code(&self) -> u8

@@ -1,8 +1,6 @@
-use Rattle.std.proofs.Common.{◌≡◌, List, map, sym, subst}
-use Rattle.std.proofs.lemmas.List.{take_all}
+use Rattle.std.proofs.Common.{◌≡◌, List, map, sym, subst, take_all}
 use Rattle.clap.specs.Words.{app_of}
-use Rattle.s66_command.specs.Rows.{SubcommandRow, in_row}
-use Rattle.s66_command.specs.Usage.{IsCommandOf, start_app, with_subcommands}
+use Rattle.s66_command.specs.{SubcommandRow, in_row, IsCommandOf, start_app, with_subcommands}
 use Rattle.s66_command.proofs.CommandLine.{fold-one, with-subcommand}
 use Rattle.s66_command.proofs.app.program.Goals as goal
 

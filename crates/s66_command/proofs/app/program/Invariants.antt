@@ -1,6 +1,5 @@
 use Rattle.std.proofs.Common.{map, take}
-use Rattle.s66_command.specs.Rows.{in_row}
-use Rattle.s66_command.specs.Usage.{IsCommandOf, start_app, with_subcommands}
+use Rattle.s66_command.specs.{in_row, IsCommandOf, start_app, with_subcommands}
 use Rattle.s66_command.proofs.app.program.Given as goal
 
 -- the subcommands so far are added

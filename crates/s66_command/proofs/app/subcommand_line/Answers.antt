@@ -1,9 +1,7 @@
 use Rattle.std.proofs.Common.{sym, subst}
 use Rattle.std.proofs.lemmas.Result.{IfOk-weaker}
 use Rattle.clap.specs.Words.{new_app}
-use Rattle.s66_command.specs.declared.subcommand.TheConstants.{SEARCH, STUDY}
-use Rattle.s66_command.specs.Rows.{in_rows}
-use Rattle.s66_command.specs.Usage.{IsCommandOf, options_by, options_in, with_options}
+use Rattle.s66_command.specs.{SEARCH, STUDY, in_rows, IsCommandOf, options_by, options_in, with_options}
 use Rattle.s66_command.proofs.CommandLine.{own-alone, with-heading, with-search}
 use Rattle.s66_command.proofs.app.subcommand_line.Goals as goal
 

@@ -1,7 +1,5 @@
-use Rattle.std.proofs.Common.{sym, subst}
-use Rattle.std.proofs.lemmas.List.{take_all}
-use Rattle.s66_command.specs.Rows.{OptionRow, in_rows}
-use Rattle.s66_command.specs.Usage.{IsCommandOf, with_options}
+use Rattle.std.proofs.Common.{sym, subst, take_all}
+use Rattle.s66_command.specs.{OptionRow, in_rows, IsCommandOf, with_options}
 use Rattle.s66_command.proofs.CommandLine.{fold-one, with-arg}
 use Rattle.s66_command.proofs.app.with_options.Goals as goal
 

@@ -1,7 +1,6 @@
 use Rattle.std.proofs.Common.{take}
 use Rattle.clap.specs.Words.{App}
-use Rattle.s66_command.specs.Rows.{in_rows}
-use Rattle.s66_command.specs.Usage.{IsCommandOf, with_options}
+use Rattle.s66_command.specs.{in_rows, IsCommandOf, with_options}
 use Rattle.s66_command.proofs.app.with_options.Given as goal
 
 -- the options so far are added

@@ -1,5 +1,5 @@
 use Rattle.std.proofs.Common.{◌≡◌, ◌≤◌, ◌+◌, ◌++◌, length}
-use Rattle.s66_command.specs.Changes.{changes_from}
+use Rattle.s66_command.specs.{changes_from}
 use Rattle.s66_command.proofs.changes.changes_among.Given as goal
 
 abbrev pub invariant-loop-numbers : goal.invariant-loop-numbers

@@ -1,7 +1,6 @@
 use Rattle.std.proofs.Common.{◌∙◌, ap, ap₂}
-use Rattle.s66_isa.specs.declared.profile.Profile.{Profile}
-use Rattle.s66_isa.specs.Table.{entries}
-use Rattle.s66_command.specs.Changes.{changes_from}
+use Rattle.s66_isa.specs.{Profile, entries}
+use Rattle.s66_command.specs.{changes_from}
 use Rattle.s66_command.proofs.changes.changes_of.Goals as goal
 
 pub returns : goal.returns

@@ -1,5 +1,5 @@
 use Rattle.std.proofs.Common.{◌≡◌, ◌++◌, drop}
-use Rattle.s66_command.specs.Changes.{changes_text}
+use Rattle.s66_command.specs.{changes_text}
 use Rattle.s66_command.proofs.changes.push_changes.Given as goal
 
 abbrev pub invariant-loop-change : goal.invariant-loop-change

@@ -1,6 +1,6 @@
 use Rattle.std.proofs.Common.{◌≡◌}
 use Rattle.serde_json.specs.View.{members_view}
-use Rattle.s66_command.specs.ProfileHint.{hint_in_members}
+use Rattle.s66_command.specs.{hint_in_members}
 use Rattle.s66_command.proofs.hint.hint_in.Given as goal
 
 -- nothing is wrong with the members so far

@@ -1,8 +1,7 @@
 use Rattle.std.proofs.Common.{◌≡◌, [], ◌↔◌, IsSome, string_bytes, ◌∙◌, sym}
 use Rattle.std.proofs.lemmas.Result.{IfOk-weaker}
 use Rattle.serde_json.specs.View.{members_view}
-use Rattle.s66_command.specs.ProfileHint.{hint_in_members}
-use Rattle.s66_command.specs.ProfileText.{profile_in_text}
+use Rattle.s66_command.specs.{hint_in_members, profile_in_text}
 use Rattle.s66_command.proofs.EmptyHints.{empty_if_profile}
 use Rattle.s66_command.proofs.hint.profile_hint.Goals as goal
 

@@ -1,8 +1,7 @@
-use Rattle.std.proofs.Common.{arith, codes, refl}
 use Rattle.std.specs.Str.Parse.{ExplainsUnsignedError, HasUnsignedDigitsIfOk, ParsesUnsigned}
+use Rattle.std.proofs.Common.{arith, codes, refl}
 use Rattle.clap.specs.Words.{found_of}
-use Rattle.s66_command.specs.declared.limits.TheConstants.{BLOCK_NUMBER_LIMIT}
-use Rattle.s66_command.specs.Usage.{IsNumberIn, Limits}
+use Rattle.s66_command.specs.{BLOCK_NUMBER_LIMIT, IsNumberIn, Limits}
 use Rattle.s66_command.proofs.GivenOptions.{number-given}
 use Rattle.s66_command.proofs.OptionRanges.{number-or_none}
 use Rattle.s66_command.proofs.options.block_in.Goals as goal

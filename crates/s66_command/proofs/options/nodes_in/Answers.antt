@@ -1,9 +1,8 @@
-use Rattle.std.proofs.Common.{arith, codes, refl}
 use Rattle.std.specs.Str.Parse.{ExplainsUnsignedError, HasUnsignedDigitsIfOk, ParsesUnsigned}
+use Rattle.std.proofs.Common.{arith, codes, refl}
 use Rattle.clap.specs.Words.{found_of}
-use Rattle.s66_model.specs.declared.limits.TheConstants.{BUDGET_LIMIT}
-use Rattle.s66_command.specs.declared.limits.TheConstants.{NODES_DEFAULT}
-use Rattle.s66_command.specs.Usage.{IsNumberOrDefault, Limits}
+use Rattle.s66_model.specs.{BUDGET_LIMIT}
+use Rattle.s66_command.specs.{NODES_DEFAULT, IsNumberOrDefault, Limits}
 use Rattle.s66_command.proofs.GivenOptions.{number-given}
 use Rattle.s66_command.proofs.OptionRanges.{number-read}
 use Rattle.s66_command.proofs.options.nodes_in.Goals as goal

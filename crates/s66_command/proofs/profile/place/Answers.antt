@@ -1,8 +1,7 @@
-use Rattle.std.proofs.Common.{◌≡◌, rules, tests, bytes_eq}
-use Rattle.std.specs.List.{position}
+use Rattle.std.proofs.Common.{◌≡◌, rules, tests, bytes_eq, position}
 use Rattle.std.proofs.lemmas.Iterator.{YieldsList-from_slice}
 use Rattle.std.proofs.lemmas.Iterator.Search.{position_from_yields_List}
-use Rattle.s66_command.specs.declared.profile.TheConstants.{NAMES}
+use Rattle.s66_command.specs.{NAMES}
 use Rattle.s66_command.proofs.profile.place.Goals as goal
 
 -- the code's names are the definition's, by computation

@@ -1,7 +1,7 @@
 use Rattle.std.proofs.Common.{◌≡◌}
 use Rattle.serde_json.specs.View.{members_view}
-use Rattle.s66_isa.specs.Profiles.{IsProfile}
-use Rattle.s66_command.specs.ProfileText.{with_members}
+use Rattle.s66_isa.specs.{IsProfile}
+use Rattle.s66_command.specs.{with_members}
 use Rattle.s66_command.proofs.profile.profile_in.Given as goal
 
 -- the members that are left do to these numbers what all do to the first

@@ -1,6 +1,5 @@
-use Rattle.std.proofs.Common.{◌≡◌, ◌++◌, codes, drop, string_bytes, take}
-use Rattle.std.specs.Prelude.{flat_map}
-use Rattle.s66_command.specs.ProfileText.{byte_in_json, is_list, is_list_behind}
+use Rattle.std.proofs.Common.{◌≡◌, ◌++◌, codes, drop, string_bytes, take, flat_map}
+use Rattle.s66_command.specs.{byte_in_json, is_list, is_list_behind}
 use Rattle.s66_command.proofs.profile_list.object_of_list.Given as goal
 
 -- what is left is behind the byte before it as the text is behind a comma

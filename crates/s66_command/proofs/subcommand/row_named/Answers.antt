@@ -1,9 +1,8 @@
+use Rattle.std.specs.Slice.Iter.{iter_rest}
 use Rattle.std.proofs.Common.{◌∙◌, List, ap, bytes_eq, find, map, refl, rules, tests}
 use Rattle.std.proofs.lemmas.Iterator.{YieldsList-from_slice}
 use Rattle.std.proofs.lemmas.Iterator.Search.{find_from_yields_List}
-use Rattle.std.specs.Slice.Iter.{iter_rest}
-use Rattle.s66_command.specs.Rows.{SubcommandRow, in_row}
-use Rattle.s66_command.specs.Usage.{Subcommand}
+use Rattle.s66_command.specs.{SubcommandRow, in_row, Subcommand}
 use Rattle.s66_command.proofs.CommandLine.{found-in}
 use Rattle.s66_command.proofs.subcommand.row_named.Goals as goal
 

@@ -1,7 +1,6 @@
-use Rattle.std.proofs.Common.{◌≡◌, ◌∙◌, ◌<◌, ◌≤◌, ap, arith, false, Bool, List, ◌∷◌, Option, None, Some, get_or, length, map, option_map, refl, sym}
 use Rattle.std.specs.Option.{option_map_or}
-use Rattle.s66_command.specs.Rows.{SubcommandRow, in_row}
-use Rattle.s66_command.specs.Usage.{Subcommand, Text, go_deep, is_deep, subcommand_named}
+use Rattle.std.proofs.Common.{◌≡◌, ◌∙◌, ◌<◌, ◌≤◌, ap, arith, false, Bool, List, ◌∷◌, Option, None, Some, get_or, length, map, option_map, refl, sym}
+use Rattle.s66_command.specs.{SubcommandRow, in_row, Subcommand, Text, go_deep, is_deep, subcommand_named}
 use Rattle.s66_command.proofs.usage.goes_deep.Goals as goal
 
 abbrev is_deep_row : Option SubcommandRow → Bool

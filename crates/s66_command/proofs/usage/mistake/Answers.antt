@@ -1,6 +1,5 @@
 use Rattle.std.proofs.Common.{◌∙◌, ap, option_map, sym}
-use Rattle.s66_command.specs.Rows.{in_row}
-use Rattle.s66_command.specs.Usage.{subcommands}
+use Rattle.s66_command.specs.{in_row, subcommands}
 use Rattle.s66_command.proofs.Named.{found-named}
 use Rattle.s66_command.proofs.usage.mistake.Goals as goal
 
