@@ -1,20 +1,14 @@
 -- The arcs of the three orders of conflict between the moments of one instruction, and of two of which one stands first.
 use Rattle.std.proofs.Common.{ℕ, ◌+◌, ◌≤◌, ◌≡◌, Bool, true, false, true≢false, cond, not, ◌&&◌, max, List, [], ◌∷◌, ◌++◌, length, map, refl, sym, arith, inl, subst}
 use Rattle.std.proofs.lemmas.Bool.{cond-true, or_parts}
-use Rattle.s66_isa.specs.declared.reg.Reg.{Reg}
-use Rattle.s66_isa.specs.Lists.{greatest, some_of, Among}
-use Rattle.s66_isa.specs.Table.{Write, same_reg, has_reg, memory_pair}
+use Rattle.s66_isa.specs.{Reg, greatest, some_of, Among, Write, same_reg, has_reg, memory_pair}
 use Rattle.s66_isa.proofs.Lists.{le-greatest, among-map}
 use Rattle.s66_isa.proofs.SameRegister.{same_reg-self, has_reg-le}
-use Rattle.s66_model.specs.Timing.{Problem, Point, ResultAt, row_at, done_at, last_done, readers_wait, result_at, free_after, start_of, point, point_of, points_after, points_of}
-use Rattle.s66_model.specs.LegalOrder.{IsLegal}
-use Rattle.s66_moments.specs.declared.moment.Stage.TheVariants.{Issue, Start, Done, Free}
-use Rattle.s66_moments.specs.declared.moment.Moment.TheVariants.{At}
-use Rattle.s66_moments.specs.Moments.{time_at, time_of, fetches}
-use Rattle.s66_moments.specs.Facts.{Before, IsSo}
+use Rattle.s66_model.specs.{Problem, Point, ResultAt, row_at, done_at, last_done, readers_wait, result_at, free_after, start_of, point, point_of, points_after, points_of, IsLegal}
 use Rattle.s66_model.proofs.Issue.{issue-is}
 use Rattle.s66_model.proofs.ChainBound.{last-is_greatest, reads-le-start, memory-le-start}
 use Rattle.s66_model.proofs.PointTimes.{points_after-append, point_of-row}
+use Rattle.s66_moments.specs.{Issue, Start, Done, Free, At, time_at, time_of, fetches, Before, IsSo}
 use Rattle.s66_moments.proofs.Placed.{among-stays, placed, time_at-placed}
 use Rattle.s66_moments.proofs.FactLaws.{before-split}
 

@@ -1,17 +1,10 @@
 -- What a tree with closings by lines and with dominated leaves shows is a lower bound, by any rule, and so is each time that is less.
 use Rattle.std.proofs.Common.{ℕ, ◌≤◌, ◌<◌, ◌≡◌, ◌⊎◌, Bool, true, List, [], ◌∷◌, ◌++◌, refl, sym, arith, inl, inr, ◌∙◌, Option, Some}
 use Rattle.s66_isa.proofs.Lists.{cases_le}
-use Rattle.s66_model.specs.declared.rule.Rule.{Rule}
-use Rattle.s66_model.specs.declared.rule.Rule.TheVariants.{NoneNamed, WrittenEarlier, ClampedStanding}
-use Rattle.s66_model.specs.Timing.{Problem, total_of}
-use Rattle.s66_model.specs.LegalOrder.{IsLegal}
-use Rattle.s66_model.specs.Trees.{Tree, Vertex, AtTerminal}
-use Rattle.s66_model.specs.NodeNames.{node_named}
-use Rattle.s66_moments.specs.Facts.{Fact, Begins, AreSo}
-use Rattle.s66_moments.specs.FactLines.{Line, facts_after}
-use Rattle.s66_moments.specs.LineTrees.{LineEnding, AtLeaf, AtLines, DominatedBy, IsClosedByLines, is_closed, may_be_named, DominatesBelow, LineEndingShows, ShowsByLines}
+use Rattle.s66_model.specs.{Rule, NoneNamed, WrittenEarlier, ClampedStanding, Problem, total_of, IsLegal, Tree, Vertex, AtTerminal, node_named}
 use Rattle.s66_model.proofs.Dominating.{set-length}
 use Rattle.s66_model.proofs.DominatedTrees.{IsShut, StaysBelow, IsTaken, may_name, IsNamed, whole-legal, shown-by, leaf-shuts, rule-takes}
+use Rattle.s66_moments.specs.{Fact, Begins, AreSo, Line, facts_after, LineEnding, AtLeaf, AtLines, DominatedBy, IsClosedByLines, is_closed, may_be_named, DominatesBelow, LineEndingShows, ShowsByLines}
 use Rattle.s66_moments.proofs.FoundedLines.{too_late-none, lines-so}
 use Rattle.s66_moments.proofs.InUse.{no_worse-below}
 

@@ -1,23 +1,16 @@
 -- What facts give: pairs of which one stands first, and what a prefix decides.
 use Rattle.std.proofs.Common.{ℕ, ◌+◌, ◌≤◌, ◌<◌, ◌≡◌, ◌≢◌, ◌⊎◌, Bool, true, false, true≢false, cond, List, [], ◌∷◌, ◌++◌, length, refl, sym, ap, arith, inl, inr, eqb, ltb, append_assoc, subst, ◌∙◌}
-use Rattle.std.proofs.lemmas.Bool.{cond_both, cond-true, cond-false, cases_Bool, cases_lt, or_cases, or_parts, and_from, eqb-true, eqb-false, eq-eqb, lt-ltb}
-use Rattle.s66_isa.specs.declared.instr.Kind.{Kind}
-use Rattle.s66_isa.specs.declared.reg.Reg.{Reg}
-use Rattle.s66_isa.specs.Lists.{tally, has, Among}
-use Rattle.s66_isa.specs.Table.{Row, same_kind}
+use Rattle.std.proofs.Common.{eqb-true, eq-eqb, lt-ltb}
+use Rattle.std.proofs.lemmas.Bool.{cond_both, cond-true, cond-false, cases_Bool, cases_lt, or_cases, or_parts, and_from, eqb-false}
+use Rattle.s66_isa.specs.{Kind, Reg, tally, has, Among, Row, same_kind}
 use Rattle.s66_isa.proofs.Lists.{greatest-le-greatest, has-among, among-has, split-among}
-use Rattle.s66_model.specs.Timing.{Problem, Point, row_at, copies, done_at, end_of, total, busy_at, point_of, points_after, points_of, next, total_of}
-use Rattle.s66_model.specs.Dependence.{depends}
-use Rattle.s66_model.specs.LegalOrder.{IsLegal}
-use Rattle.s66_moments.specs.declared.moment.Stage.TheVariants.{Issue, Start, Done, Free}
-use Rattle.s66_moments.specs.declared.moment.Moment.TheVariants.{Origin, At, End}
-use Rattle.s66_moments.specs.Moments.{time_at, time_of}
-use Rattle.s66_moments.specs.Facts.{Fact, Arc, Before, IsSo, AreSo, Follows, NoOrder}
+use Rattle.s66_model.specs.{Problem, Point, row_at, copies, done_at, end_of, total, busy_at, point_of, points_after, points_of, next, total_of, depends, IsLegal}
 use Rattle.s66_model.proofs.Issue.{done_at-le}
 use Rattle.s66_model.proofs.LoadBound.{at_issue-lt}
 use Rattle.s66_model.proofs.PointTimes.{points_after-append, next-le-issue, next-grows, issue-le-start, hold-le-free, point_of-row, point_of-number}
-use Rattle.s66_moments.proofs.Placed.{among-stays, has-split, has-joined, placed, placed-range, time_at-placed}
 use Rattle.s66_model.proofs.Beginnings.{has-more}
+use Rattle.s66_moments.specs.{Issue, Start, Done, Free, Origin, At, End, time_at, time_of, Fact, Arc, Before, IsSo, AreSo, Follows, NoOrder}
+use Rattle.s66_moments.proofs.Placed.{among-stays, has-split, has-joined, placed, placed-range, time_at-placed}
 
 -- WHAT IS KNOWN
 

@@ -1,19 +1,11 @@
 -- What lines are founded on gives their facts, and so for each time that is less.
 use Rattle.std.proofs.Common.{ℕ, ◌+◌, ◌-◌, ◌≤◌, ◌<◌, ◌≡◌, true, min, List, [], ◌∷◌, length, map, refl, sym, ap, arith, inl, inr, subst, ◌∙◌}
 use Rattle.std.proofs.lemmas.List.{length-map}
-use Rattle.s66_isa.specs.declared.instr.Kind.{Kind}
-use Rattle.s66_isa.specs.Lists.{least, weigh, Among}
-use Rattle.s66_isa.specs.Table.{same_kind}
-use Rattle.s66_model.specs.Timing.{Problem, Point, row_at, copies, total_of}
-use Rattle.s66_model.specs.LegalOrder.{IsLegal}
-use Rattle.s66_moments.specs.declared.moment.Stage.{Stage}
-use Rattle.s66_moments.specs.declared.moment.Stage.TheVariants.{Issue, Start, Free}
-use Rattle.s66_moments.specs.declared.moment.Moment.{Moment}
-use Rattle.s66_moments.specs.declared.moment.Moment.TheVariants.{Origin, At, End}
-use Rattle.s66_moments.specs.Moments.{time_of}
-use Rattle.s66_moments.specs.Facts.{Fact, Arc, Before, Begins, AreSo, Follows, NoOrder, IsNumber, Work, shared_time, AreOnce, IsWithin}
-use Rattle.s66_moments.specs.Paths.{Leads}
-use Rattle.s66_moments.specs.FactLines.{Use, Line, ForcedPair, LoadArc, Supposed, fact_of, IsForced, use_time, IsBetween, AreBetween, IsFoundedByPaths, AreFoundedByPaths, IsTooLate, IsRefuted, IsFounded, AreFounded, facts_after}
+use Rattle.s66_isa.specs.{Kind, least, weigh, Among, same_kind}
+use Rattle.s66_model.specs.{Problem, Point, row_at, copies, total_of, IsLegal}
+use Rattle.s66_moments.specs.{Stage, Issue, Start, Free, Moment, Origin, At, End, time_of, Fact, Arc, Before, Begins, AreSo, Follows, NoOrder, IsNumber, Work, shared_time, AreOnce, IsWithin, Leads}
+use Rattle.s66_moments.specs.{Use, Line, ForcedPair, LoadArc, Supposed, fact_of, IsForced, use_time, IsBetween, AreBetween, IsFoundedByPaths, AreFoundedByPaths, IsTooLate, IsRefuted, IsFounded}
+use Rattle.s66_moments.specs.{AreFounded, facts_after}
 use Rattle.s66_moments.proofs.LoadArcs.{load-arc}
 use Rattle.s66_moments.proofs.FactLaws.{among-so, issue-start, start-free, before-itself, forced, forced-parcels, forced-unit, prefix-time_at}
 use Rattle.s66_moments.proofs.Steps.{precedes-so, leads-so}

@@ -1,17 +1,10 @@
 -- What dominates in use stays ahead of the other as both go on with the same numbers, so it is no worse below the time. What dominates clamped does so in use.
-use Rattle.std.proofs.Common.{ℕ, ◌≤◌, ◌<◌, ◌≡◌, ◌⊎◌, true, not, ◌&&◌, leb, eqb, max, List, [], ◌∷◌, ◌++◌, length, refl, sym, arith, inl, inr, subst, append_assoc, length-append, ◌∙◌}
-use Rattle.std.proofs.lemmas.Bool.{and_parts, and_from, or_parts, not_from_false, le-leb}
-use Rattle.std.proofs.lemmas.List.{append-nil}
-use Rattle.s66_isa.specs.declared.instr.Instr.{Instr}
-use Rattle.s66_isa.specs.Lists.{has}
-use Rattle.s66_model.specs.Timing.{Problem, Point, row_at, copies, points_of, point_of, next, slot_of, total_of}
-use Rattle.s66_model.specs.LegalOrder.{IsLegal, IsBeginning, needs_met, is_remaining, is_ready}
-use Rattle.s66_model.specs.Dominance.{place_in_word, free_times, IsSameSet, clamp_at, IsNoLater, DominatesClamped}
-use Rattle.s66_moments.specs.declared.moment.Stage.TheVariants.{Issue, Start}
-use Rattle.s66_moments.specs.declared.moment.Moment.TheVariants.{At}
-use Rattle.s66_moments.specs.Moments.{time_of, soonest}
-use Rattle.s66_moments.specs.Facts.{Fact, AreSo}
-use Rattle.s66_moments.specs.InUse.{ComesNoSooner, FindsNoLater, DominatesInUse, IsNoWorseBelow}
+use Rattle.std.proofs.Common.{ℕ, ◌≤◌, ◌<◌, ◌≡◌, ◌⊎◌, true, not, ◌&&◌, leb, eqb, max, List, [], ◌∷◌, ◌++◌, length, refl, sym, arith, inl, inr, subst, append_assoc, length-append, ◌∙◌, le-leb}
+use Rattle.std.proofs.Common.{append-nil}
+use Rattle.std.proofs.lemmas.Bool.{and_parts, and_from, or_parts, not_from_false}
+use Rattle.s66_isa.specs.{Instr, has}
+use Rattle.s66_model.specs.{Problem, Point, row_at, copies, points_of, point_of, next, slot_of, total_of, IsLegal, IsBeginning, needs_met, is_remaining, is_ready, place_in_word, free_times, IsSameSet}
+use Rattle.s66_model.specs.{clamp_at, IsNoLater, DominatesClamped}
 use Rattle.s66_model.proofs.SameSet.{is_ready-same}
 use Rattle.s66_model.proofs.LegalOrders.{has-push, order-legal}
 use Rattle.s66_model.proofs.Remaining.{remaining-parts, step-begins, legal-parts}
@@ -20,6 +13,7 @@ use Rattle.s66_model.proofs.ChainBound.{last-is_greatest}
 use Rattle.s66_model.proofs.FreeTimes.{busy-later, free_times-falling, places-busy}
 use Rattle.s66_model.proofs.PushedBoth.{FindsBelow, slot-le, phase-push, memory-clamped, slot-push, end-below, finds-push}
 use Rattle.s66_model.proofs.Dominating.{same-push, set-length, clamped-total}
+use Rattle.s66_moments.specs.{Issue, Start, At, time_of, soonest, Fact, AreSo, ComesNoSooner, FindsNoLater, DominatesInUse, IsNoWorseBelow}
 use Rattle.s66_moments.proofs.Placed.{placed-ready, time_at-placed}
 use Rattle.s66_moments.proofs.Soonest.{soonest-le, total-stays}
 

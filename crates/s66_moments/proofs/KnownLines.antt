@@ -1,28 +1,18 @@
 -- Fact lines that are taken are founded, and what is known after them is known by their facts.
-use Rattle.std.proofs.Common.{ℕ, ◌+◌, ◌*◌, ◌≤◌, ◌<◌, ◌≡◌, ◌≢◌, ◌⊎◌, Bool, true, false, true≢false, not, ◌||◌, List, [], ◌∷◌, ◌++◌, ◌-◌, length, map, refl, sym, ap, arith, inl, inr, eqb, leb, ltb, ◌∙◌, subst, Option, Some, None}
-use Rattle.std.specs.Prelude.{is_some}
-use Rattle.std.proofs.lemmas.Bool.{and_parts, or_cases, or_left, not-true, eqb-true, eq-eqb, ne_eqb, eqb-false, leb-true, ltb-true}
-use Rattle.s66_isa.specs.declared.instr.Kind.{Kind}
-use Rattle.s66_isa.specs.Lists.{every, has, Among}
-use Rattle.s66_isa.specs.Table.{same_kind}
-use Rattle.s66_model.specs.Timing.{Problem, row_at, copies}
-use Rattle.s66_model.specs.LegalOrder.{is_remaining}
+use Rattle.std.proofs.Common.{ℕ, ◌+◌, ◌*◌, ◌≤◌, ◌<◌, ◌≡◌, ◌≢◌, ◌⊎◌, Bool, true, false, true≢false, not, ◌||◌, List, [], ◌∷◌, ◌++◌, ◌-◌, length, map, refl, sym, ap, arith, inl, inr, eqb, leb, ltb, ◌∙◌}
+use Rattle.std.proofs.Common.{subst, Option, Some, None, is_some, eqb-true, eq-eqb, ne_eqb, leb-true, ltb-true}
+use Rattle.std.proofs.lemmas.Bool.{and_parts, or_cases, or_left, not-true, eqb-false}
+use Rattle.s66_isa.specs.{Kind, every, has, Among, same_kind}
+use Rattle.s66_isa.proofs.Lists.{split-among}
+use Rattle.s66_model.specs.{Problem, row_at, copies, is_remaining}
 use Rattle.s66_model.proofs.Remaining.{remaining-parts}
 use Rattle.s66_model.proofs.LongestChain.{greatest-reached}
-use Rattle.s66_moments.specs.declared.moment.Stage.{Stage}
-use Rattle.s66_moments.specs.declared.moment.Stage.TheVariants.{Issue, Start, Done, Free}
-use Rattle.s66_moments.specs.declared.moment.Moment.{Moment}
-use Rattle.s66_moments.specs.declared.moment.Moment.TheVariants.{Origin, At, End}
-use Rattle.s66_moments.specs.declared.fact_line.FactLine.{FactLine}
-use Rattle.s66_moments.specs.declared.fact_line.FactLine.TheVariants.{Pair, Load}
-use Rattle.s66_moments.specs.declared.fact_line.LoadLine.{LoadLine}
-use Rattle.s66_moments.specs.declared.fact_line.KnownArc.{KnownArc}
-use Rattle.s66_moments.specs.Moments.{is_moment}
-use Rattle.s66_moments.specs.Facts.{Fact, Arc, Before, Begins, IsNumber, AreOnce}
-use Rattle.s66_moments.specs.Paths.{IsStep, Hop, IsPath, waits, Leads}
-use Rattle.s66_moments.specs.FactLines.{Use, LoadArc, fact_of, IsLateByParcels, IsLateByUnit, use_time, IsBetween, AreBetween, IsFoundedByPaths, IsTooLate, IsFounded, AreFounded, facts_after}
-use Rattle.s66_moments.specs.Networks.{Network, network, IsKnown, AreSteps, IsRising, RisesBy, HasOwnArcs, IsTransitive, HasNoRing, IsNetworkPath, targets, most_arcs, rank_by, place_by, moments_of, with_arc, with_pair, soonest_path, tail}
-use Rattle.s66_moments.specs.KnownFacts.{Known, is_front, is_back, use_of, kind_of_load, line_of, plus, span, reaches, known_first, with_line, with_loads, arcs_of, is_number, is_late_by_parcels, is_late_by_unit, is_pair_taken, are_rising, leads_up, is_used_from, is_used, are_used, is_arc_up, is_load_taken, is_taken, are_taken, known_after, next_value, is_turned}
+use Rattle.s66_moments.specs.{Stage, Issue, Start, Done, Free, Moment, Origin, At, End, FactLine, Pair, Load, LoadLine, KnownArc, is_moment, Fact, Arc, Before, Begins, IsNumber, AreOnce, IsStep, Hop}
+use Rattle.s66_moments.specs.{IsPath, waits, Leads, Use, LoadArc, fact_of, IsLateByParcels, IsLateByUnit, use_time, IsBetween, AreBetween, IsFoundedByPaths, IsTooLate, IsFounded, AreFounded}
+use Rattle.s66_moments.specs.{facts_after, Network, network, IsKnown, AreSteps, IsRising, RisesBy, HasOwnArcs, IsTransitive, HasNoRing, IsNetworkPath, targets, most_arcs, rank_by, place_by}
+use Rattle.s66_moments.specs.{moments_of, with_arc, with_pair, soonest_path, tail, Known, is_front, is_back, use_of, kind_of_load, line_of, plus, span, reaches, known_first, with_line, with_loads}
+use Rattle.s66_moments.specs.{arcs_of, is_number, is_late_by_parcels, is_late_by_unit, is_pair_taken, are_rising, leads_up, is_used_from, is_used, are_used, is_arc_up, is_load_taken, is_taken}
+use Rattle.s66_moments.specs.{are_taken, known_after, next_value, is_turned}
 use Rattle.s66_moments.proofs.TableArcs.{and_three, and_four, and_five, Some-same, moment-number}
 use Rattle.s66_moments.proofs.Tails.{moment-target, network-steps, network-rises_by, network-own, own-among, tail-reached, path-tail, some-arc, arc-some}
 use Rattle.s66_moments.proofs.MoreArcs.{with-steps, with-rises, with-own, with-longer, pair-known}
@@ -30,7 +20,6 @@ use Rattle.s66_moments.proofs.Rings.{places, pair-transitive, pair-no_ring}
 use Rattle.s66_moments.proofs.Preceders.{precedes-known, precedes-transitive, precedes-no_ring}
 use Rattle.s66_moments.proofs.NextLeaves.{precedes-more, next-late, turned-late, path-join, waits-join}
 use Rattle.s66_moments.proofs.Spans.{height, plus-some, some-height, span-path, span-high}
-use Rattle.s66_isa.proofs.Lists.{split-among}
 
 -- WHAT IS KNOWN by facts
 

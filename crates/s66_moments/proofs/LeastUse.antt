@@ -1,9 +1,8 @@
 -- What a walk over the uses of a load has found of the least of them, and what is left to look at.
 use Rattle.std.proofs.Common.{ℕ, ◌+◌, ◌<◌, ◌≡◌, min, List, [], ◌∷◌, length, map, get_or, refl, sym, ap, arith, ◌∙◌}
-use Rattle.s66_isa.specs.Lists.{least}
-use Rattle.s66_model.specs.Timing.{Problem, row_at}
-use Rattle.s66_moments.specs.FactLines.{Use}
-use Rattle.s66_moments.specs.KnownFacts.{use_of}
+use Rattle.s66_isa.specs.{least}
+use Rattle.s66_model.specs.{Problem, row_at}
+use Rattle.s66_moments.specs.{Use, use_of}
 
 -- the least of low and of the amounts of these
 abbrev pub least_with : ℕ → List Use → ℕ

@@ -1,21 +1,13 @@
 -- Work of one kind between two moments takes its sum over the copies, rounded up, and as many whole works as one copy has.
 use Rattle.std.proofs.Common.{ℕ, zero, suc, ◌+◌, ◌-◌, ◌*◌, ◌≤◌, ◌<◌, ◌≡◌, true, cond, List, [], ◌∷◌, length, map, refl, arith, inl, inr, eqb, subst}
 use Rattle.std.proofs.lemmas.Bool.{cases_lt}
-use Rattle.s66_isa.specs.declared.instr.Kind.{Kind}
-use Rattle.s66_isa.specs.Lists.{least, weigh, tally, has, Among}
-use Rattle.s66_isa.specs.Table.{same_kind}
-use Rattle.s66_model.specs.Timing.{Problem, Point, copies, point_of, points_of, total_of}
-use Rattle.s66_model.specs.LegalOrder.{IsLegal}
-use Rattle.s66_model.specs.Leaves.{over}
-use Rattle.s66_moments.specs.declared.moment.Stage.TheVariants.{Issue, Free}
-use Rattle.s66_moments.specs.declared.moment.Moment.{Moment}
-use Rattle.s66_moments.specs.declared.moment.Moment.TheVariants.{At}
-use Rattle.s66_moments.specs.Moments.{time_of}
-use Rattle.s66_moments.specs.Facts.{Fact, Arc, AreSo, Follows, Work, load_time, AreOnce, IsWithin}
+use Rattle.s66_isa.specs.{Kind, least, weigh, tally, has, Among, same_kind}
 use Rattle.s66_isa.proofs.Lists.{least-le}
+use Rattle.s66_model.specs.{Problem, Point, copies, point_of, points_of, total_of, IsLegal, over}
 use Rattle.s66_model.proofs.Issue.{some_copies}
 use Rattle.s66_model.proofs.LoadBound.{over-le}
 use Rattle.s66_model.proofs.PointTimes.{point_of-row, point_of-number}
+use Rattle.s66_moments.specs.{Issue, Free, Moment, At, time_of, Fact, Arc, AreSo, Follows, Work, load_time, AreOnce, IsWithin}
 use Rattle.s66_moments.proofs.Placed.{placed, point-among, time_at-placed}
 use Rattle.s66_moments.proofs.UnitWindows.{works_at, works-run, work_between, between-le, either, has-one, some-le}
 use Rattle.s66_moments.proofs.WholeUses.{looks, looks-le, held-looked}

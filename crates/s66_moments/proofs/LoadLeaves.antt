@@ -1,22 +1,11 @@
 -- An unsplit prefix is closed if what remains of some numbers of one kind takes the bound.
-use Rattle.std.proofs.Common.{ℕ, ◌+◌, ◌≤◌, ◌≡◌, true, true≢false, ◌||◌, ◌&&◌, List, [], ◌∷◌, length, map, refl, sym, arith, inl, inr, leb, ltb}
-use Rattle.std.proofs.lemmas.Bool.{and_parts, or_cases, leb-true}
-use Rattle.s66_isa.specs.declared.instr.Kind.{Kind}
-use Rattle.s66_isa.specs.Lists.{every}
-use Rattle.s66_isa.specs.Table.{same_kind}
-use Rattle.s66_model.specs.Timing.{Problem, row_at}
-use Rattle.s66_model.specs.LegalOrder.{is_remaining}
+use Rattle.std.proofs.Common.{ℕ, ◌+◌, ◌≤◌, ◌≡◌, true, true≢false, ◌||◌, ◌&&◌, List, [], ◌∷◌, length, map, refl, sym, arith, inl, inr, leb, ltb, leb-true}
+use Rattle.std.proofs.lemmas.Bool.{and_parts, or_cases}
+use Rattle.s66_isa.specs.{Kind, every, same_kind}
+use Rattle.s66_model.specs.{Problem, row_at, is_remaining}
 use Rattle.s66_model.proofs.Remaining.{remaining-parts}
-use Rattle.s66_moments.specs.declared.moment.Stage.{Stage}
-use Rattle.s66_moments.specs.declared.moment.Stage.TheVariants.{Issue, Start}
-use Rattle.s66_moments.specs.declared.moment.Moment.TheVariants.{Origin, At, End}
-use Rattle.s66_moments.specs.Moments.{has_stage, soonest}
-use Rattle.s66_moments.specs.Facts.{Fact, Begins, IsNumber}
-use Rattle.s66_moments.specs.Paths.{Leads}
-use Rattle.s66_moments.specs.FactLines.{use_time, IsBetween, AreBetween, IsFounded}
-use Rattle.s66_moments.specs.LineTrees.{IsClosedByLines}
-use Rattle.s66_moments.specs.Networks.{Network, tail}
-use Rattle.s66_moments.specs.KnownFacts.{Known, use_of, kind_of_load, arcs_of, are_rising, is_left_from, is_left, is_loaded, load_of}
+use Rattle.s66_moments.specs.{Stage, Issue, Start, Origin, At, End, has_stage, soonest, Fact, Begins, IsNumber, Leads, use_time, IsBetween, AreBetween, IsFounded, IsClosedByLines, Network, tail}
+use Rattle.s66_moments.specs.{Known, use_of, kind_of_load, arcs_of, are_rising, is_left_from, is_left, is_loaded, load_of}
 use Rattle.s66_moments.proofs.KnownLines.{IsSound, arcs-steps, rising-once}
 use Rattle.s66_moments.proofs.NextLeaves.{tail-leads, soonest-leads, left-moment}
 

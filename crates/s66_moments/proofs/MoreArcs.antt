@@ -1,18 +1,13 @@
 -- A network with an arc more, and a test with a pair more.
 use Rattle.std.proofs.Common.{ℕ, zero, suc, ◌+◌, ◌≤◌, ◌<◌, ◌≡◌, Bool, true, false, true≢false, ◌&&◌, max, List, [], ◌∷◌, refl, sym, ap, arith, inl, inr, eqb, ◌∙◌, ◌⊎◌, subst, Some, None, Option}
-use Rattle.std.specs.Prelude.{unwrap_or, is_some}
-use Rattle.std.proofs.lemmas.Bool.{cond-true, cond-false, and_parts, and_from, or_cases, eqb-true, eq-eqb, cases_Bool}
-use Rattle.s66_isa.specs.Lists.{Among}
+use Rattle.std.proofs.Common.{unwrap_or, is_some, eqb-true, eq-eqb}
+use Rattle.std.proofs.lemmas.Bool.{cond-true, cond-false, and_parts, and_from, or_cases, cases_Bool}
+use Rattle.s66_isa.specs.{Among}
 use Rattle.s66_isa.proofs.Lists.{cases_le, greatest-le-greatest}
 use Rattle.s66_isa.proofs.SameRegister.{same_reg-true, same_reg-self}
-use Rattle.s66_model.specs.Timing.{Problem}
-use Rattle.s66_moments.specs.declared.moment.Stage.{Stage}
-use Rattle.s66_moments.specs.declared.moment.Stage.TheVariants.{Issue, Start, Done, Free}
-use Rattle.s66_moments.specs.declared.moment.Moment.{Moment}
-use Rattle.s66_moments.specs.declared.moment.Moment.TheVariants.{Origin, At, End}
-use Rattle.s66_moments.specs.Facts.{Fact, Arc, Before, Follows, IsNumber}
-use Rattle.s66_moments.specs.Paths.{PrecedesBy, Precedes}
-use Rattle.s66_moments.specs.Networks.{Network, IsKnown, AreArcs, targets, most_arcs, RisesBy, HasOwnArcs, same_stage, same_moment, with_arc, with_pair, through, tail_over, tail, AreSteps}
+use Rattle.s66_model.specs.{Problem}
+use Rattle.s66_moments.specs.{Stage, Issue, Start, Done, Free, Moment, Origin, At, End, Fact, Arc, Before, Follows, IsNumber, PrecedesBy, Precedes, Network, IsKnown, AreArcs, targets, most_arcs}
+use Rattle.s66_moments.specs.{RisesBy, HasOwnArcs, same_stage, same_moment, with_arc, with_pair, through, tail_over, tail, AreSteps}
 use Rattle.s66_moments.proofs.TableArcs.{Some-same}
 use Rattle.s66_moments.proofs.Tails.{some-arc, arc-some}
 

@@ -1,18 +1,10 @@
 -- An unsplit prefix is closed if a moment, as if its instruction came next, and its tail reach the time, or if a known pair is turned.
-use Rattle.std.proofs.Common.{ℕ, ◌+◌, ◌≤◌, ◌≡◌, true, List, [], ◌∷◌, ◌++◌, refl, sym, arith, inl, inr, subst, Some}
-use Rattle.std.proofs.lemmas.Bool.{and_from, eq-eqb, le-leb}
-use Rattle.s66_model.specs.Timing.{Problem, row_at}
-use Rattle.s66_model.specs.LegalOrder.{is_remaining}
-use Rattle.s66_moments.specs.declared.moment.Stage.{Stage}
-use Rattle.s66_moments.specs.declared.moment.Stage.TheVariants.{Issue, Start, Done, Free}
-use Rattle.s66_moments.specs.declared.moment.Moment.{Moment}
-use Rattle.s66_moments.specs.declared.moment.Moment.TheVariants.{Origin, At, End}
-use Rattle.s66_moments.specs.Moments.{is_moment, has_stage, soonest, own_arc}
-use Rattle.s66_moments.specs.Facts.{Fact, Begins, IsNumber}
-use Rattle.s66_moments.specs.Paths.{IsFirst, PrecedesBy, Precedes, IsPlacedFirst, IsInOrder, IsStep, Hop, IsPath, waits, Leads}
-use Rattle.s66_moments.specs.FactLines.{IsTooLate}
-use Rattle.s66_moments.specs.Networks.{Network, AreSteps, IsRemaining, IsNetworkPath, most_arcs, tail}
+use Rattle.std.proofs.Common.{ℕ, ◌+◌, ◌≤◌, ◌≡◌, true, List, [], ◌∷◌, ◌++◌, refl, sym, arith, inl, inr, subst, Some, eq-eqb, le-leb}
+use Rattle.std.proofs.lemmas.Bool.{and_from}
+use Rattle.s66_model.specs.{Problem, row_at, is_remaining}
 use Rattle.s66_model.proofs.Remaining.{remaining-parts}
+use Rattle.s66_moments.specs.{Stage, Issue, Start, Done, Free, Moment, Origin, At, End, is_moment, has_stage, soonest, own_arc, Fact, Begins, IsNumber, IsFirst, PrecedesBy, Precedes, IsPlacedFirst}
+use Rattle.s66_moments.specs.{IsInOrder, IsStep, Hop, IsPath, waits, Leads, IsTooLate, Network, AreSteps, IsRemaining, IsNetworkPath, most_arcs, tail}
 use Rattle.s66_moments.proofs.Tails.{tail-reached}
 use Rattle.s66_moments.proofs.MoreArcs.{precedes-through}
 

@@ -1,13 +1,12 @@
 -- In a legal order each number has one point, and what a point is at stands by the numbers before it.
-use Rattle.std.proofs.Common.{ℕ, ◌+◌, ◌≤◌, ◌≡◌, true, false, true≢false, cond, List, [], ◌∷◌, ◌++◌, length, refl, sym, ap, arith, inl, inr, eqb, subst, ◌∙◌}
-use Rattle.std.proofs.lemmas.Bool.{cond-true, cond-false, cases_Bool, or_cases, or_left, or_right, eq-eqb, eqb-true}
-use Rattle.s66_isa.specs.Lists.{tally, has, Among}
-use Rattle.s66_model.specs.Timing.{Problem, Point, point_of, points_after, points_of}
-use Rattle.s66_model.specs.LegalOrder.{IsLegal, is_ready}
-use Rattle.s66_moments.specs.Moments.{time_at}
+use Rattle.std.proofs.Common.{ℕ, ◌+◌, ◌≤◌, ◌≡◌, true, false, true≢false, cond, List, [], ◌∷◌, ◌++◌, length, refl, sym, ap, arith, inl, inr, eqb, subst, ◌∙◌, eq-eqb, eqb-true}
+use Rattle.std.proofs.lemmas.Bool.{cond-true, cond-false, cases_Bool, or_cases, or_left, or_right}
+use Rattle.s66_isa.specs.{tally, has, Among}
+use Rattle.s66_model.specs.{Problem, Point, point_of, points_after, points_of, IsLegal, is_ready}
 use Rattle.s66_model.proofs.LegalOrders.{legal-order, ready-parts}
 use Rattle.s66_model.proofs.Remaining.{legal-parts, order-has}
 use Rattle.s66_model.proofs.PointTimes.{point_of-number, points_after-append}
+use Rattle.s66_moments.specs.{time_at}
 
 -- HOW MANY POINTS A NUMBER HAS
 

@@ -1,16 +1,11 @@
 -- What precedes a number by dependence: what it depends on, and what precedes one of these.
 use Rattle.std.proofs.Common.{ℕ, zero, suc, ◌+◌, ◌-◌, ◌≤◌, ◌<◌, ◌≡◌, Bool, true, ◌&&◌, List, [], ◌∷◌, ◌++◌, length, arith, inl, inr, ◌⊎◌}
 use Rattle.std.proofs.lemmas.Bool.{cases_Bool, or_cases, or_left, or_right, and_parts, and_from}
-use Rattle.s66_isa.specs.declared.instr.Instr.{Instr}
-use Rattle.s66_isa.specs.Lists.{some_of, Among}
-use Rattle.s66_isa.specs.Table.{numbers}
+use Rattle.s66_isa.specs.{Instr, some_of, Among, numbers}
 use Rattle.s66_isa.proofs.Lists.{rising-among}
-use Rattle.s66_model.specs.Timing.{Problem}
-use Rattle.s66_model.specs.Dependence.{depends}
-use Rattle.s66_moments.specs.Facts.{Fact, IsNumber}
-use Rattle.s66_moments.specs.Paths.{PrecedesBy, Precedes}
-use Rattle.s66_moments.specs.Networks.{IsPlaced, IsTransitive, HasNoRing, precedes_over, precedes}
+use Rattle.s66_model.specs.{Problem, depends}
 use Rattle.s66_model.proofs.LegalOrders.{depends-lt, depends-from}
+use Rattle.s66_moments.specs.{Fact, IsNumber, PrecedesBy, Precedes, IsPlaced, IsTransitive, HasNoRing, precedes_over, precedes}
 use Rattle.s66_moments.proofs.TableArcs.{some-found, found-some}
 
 module _ (block : List Instr) where

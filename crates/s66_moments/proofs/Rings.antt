@@ -1,14 +1,12 @@
 -- A test by which no number stands before itself has places, and may have a pair more that is not turned.
-use Rattle.std.proofs.Common.{ℕ, ◌+◌, ◌≤◌, ◌<◌, ◌≡◌, ◌≢◌, ◌⊎◌, Bool, true, false, true≢false, cond, ◌||◌, ◌&&◌, List, [], ◌∷◌, length, refl, sym, arith, inl, inr, eqb, ◌∙◌, subst}
-use Rattle.std.proofs.lemmas.Bool.{cond-true, cond-false, and_parts, and_from, or_cases, or_left, or_right, eqb-true, cases_Bool}
-use Rattle.s66_isa.specs.Lists.{tally, Among}
-use Rattle.s66_isa.specs.Table.{numbers}
+use Rattle.std.proofs.Common.{ℕ, ◌+◌, ◌≤◌, ◌<◌, ◌≡◌, ◌≢◌, ◌⊎◌, Bool, true, false, true≢false, cond, ◌||◌, ◌&&◌, List, [], ◌∷◌, length, refl, sym, arith, inl, inr, eqb, ◌∙◌, subst, eqb-true}
+use Rattle.std.proofs.lemmas.Bool.{cond-true, cond-false, and_parts, and_from, or_cases, or_left, or_right, cases_Bool}
+use Rattle.s66_isa.specs.{tally, Among, numbers}
 use Rattle.s66_isa.proofs.Lists.{rising-among, among-rising}
-use Rattle.s66_model.specs.Timing.{Problem}
-use Rattle.s66_moments.specs.Facts.{IsNumber}
-use Rattle.s66_moments.specs.Networks.{IsPlaced, with_pair, IsTransitive, HasNoRing, place_by}
+use Rattle.s66_model.specs.{Problem}
 use Rattle.s66_model.proofs.Beginnings.{length-rising}
 use Rattle.s66_model.proofs.LegalOrders.{tally-le}
+use Rattle.s66_moments.specs.{IsNumber, IsPlaced, with_pair, IsTransitive, HasNoRing, place_by}
 
 -- COUNTS
 

@@ -1,20 +1,13 @@
 -- A moment comes no sooner than if its instruction came next, and no later than the total.
 use Rattle.std.proofs.Common.{ℕ, ◌+◌, ◌≤◌, ◌≡◌, Bool, true, false, cond, ◌&&◌, List, [], ◌∷◌, ◌++◌, ap, arith, eqb, subst}
-use Rattle.s66_isa.specs.declared.reg.Reg.{Reg}
-use Rattle.s66_isa.specs.Lists.{greatest, tally}
-use Rattle.s66_isa.specs.Table.{Row, has_reg, memory_pair}
-use Rattle.s66_model.specs.Timing.{Problem, Point, row_at, done_at, done_of, last_done, end_of, slot_of, busy_at, point_of, points_after, points_of, total_of}
-use Rattle.s66_model.specs.LegalOrder.{IsLegal, is_remaining}
-use Rattle.s66_model.specs.Dominance.{place_in_word}
-use Rattle.s66_moments.specs.declared.moment.Stage.{Stage}
-use Rattle.s66_moments.specs.declared.moment.Stage.TheVariants.{Issue, Start, Done, Free}
-use Rattle.s66_moments.specs.declared.moment.Moment.TheVariants.{At}
-use Rattle.s66_moments.specs.Moments.{stage_time, time_of, soonest}
+use Rattle.s66_isa.specs.{Reg, greatest, tally, Row, has_reg, memory_pair}
+use Rattle.s66_model.specs.{Problem, Point, row_at, done_at, done_of, last_done, end_of, slot_of, busy_at, point_of, points_after, points_of, total_of, IsLegal, is_remaining, place_in_word}
 use Rattle.s66_model.proofs.Remaining.{remaining-parts}
 use Rattle.s66_model.proofs.Issue.{done_at-le}
 use Rattle.s66_model.proofs.PointTimes.{good-at, points_after-append, greatest-stays, next-le-issue, issue-le-start, hold-le-free, point_of-row}
 use Rattle.s66_model.proofs.PushedBoth.{FindsBelow, pad, slot-is, issue-below, start-below, done-below, free-below}
 use Rattle.s66_model.proofs.ChainBound.{last-is_greatest}
+use Rattle.s66_moments.specs.{Stage, Issue, Start, Done, Free, At, stage_time, time_of, soonest}
 use Rattle.s66_moments.proofs.Placed.{placed, points-split, time_at-placed}
 use Rattle.s66_moments.proofs.FactLaws.{later-place}
 

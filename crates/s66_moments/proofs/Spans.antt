@@ -1,13 +1,9 @@
 -- Spans: the longest of the paths from one moment to another, from either side.
 use Rattle.std.proofs.Common.{ℕ, zero, suc, ◌+◌, ◌≤◌, ◌<◌, ◌≡◌, ◌⊎◌, true, max, List, [], ◌∷◌, ◌++◌, length, refl, sym, ap, arith, inl, inr, subst, Option, Some, None}
-use Rattle.s66_isa.specs.Lists.{greatest, Among}
+use Rattle.s66_isa.specs.{greatest, Among}
 use Rattle.s66_isa.proofs.Lists.{cases_le, le-greatest}
-use Rattle.s66_model.specs.Timing.{Problem}
-use Rattle.s66_moments.specs.declared.moment.Moment.{Moment}
-use Rattle.s66_moments.specs.Moments.{only_if}
-use Rattle.s66_moments.specs.Paths.{Hop, waits}
-use Rattle.s66_moments.specs.Networks.{Network, targets, most_arcs, IsRising, IsNetworkPath, same_moment}
-use Rattle.s66_moments.specs.KnownFacts.{later, latest, plus, span_over, span}
+use Rattle.s66_model.specs.{Problem}
+use Rattle.s66_moments.specs.{Moment, only_if, Hop, waits, Network, targets, most_arcs, IsRising, IsNetworkPath, same_moment, later, latest, plus, span_over, span}
 use Rattle.s66_moments.proofs.TableArcs.{Some-same, None-none, only_if-parts}
 use Rattle.s66_moments.proofs.Tails.{arc-some, path-short}
 use Rattle.s66_moments.proofs.MoreArcs.{same_moment-true, same_moment-self}

@@ -1,12 +1,8 @@
 -- Each step is so in every order that has what is known, and so is each path of them.
 use Rattle.std.proofs.Common.{ℕ, ◌+◌, ◌≤◌, ◌≡◌, Bool, true, List, [], ◌∷◌, ◌++◌, sym, ap, arith, inl, inr, subst}
-use Rattle.s66_model.specs.Timing.{Problem}
-use Rattle.s66_model.specs.LegalOrder.{IsLegal}
-use Rattle.s66_moments.specs.declared.moment.Moment.{Moment}
-use Rattle.s66_moments.specs.declared.moment.Moment.TheVariants.{Origin, At, End}
-use Rattle.s66_moments.specs.Moments.{stage_time, time_of}
-use Rattle.s66_moments.specs.Facts.{Fact, Arc, Before, Begins, IsSo, AreSo, IsNumber}
-use Rattle.s66_moments.specs.Paths.{IsFirst, PrecedesBy, Precedes, IsInOrder, IsAtPrefix, IsStep, Hop, IsPath, waits, AreKept, Leads}
+use Rattle.s66_model.specs.{Problem, IsLegal}
+use Rattle.s66_moments.specs.{Moment, Origin, At, End, stage_time, time_of, Fact, Arc, Before, Begins, IsSo, AreSo, IsNumber, IsFirst, PrecedesBy, Precedes, IsInOrder, IsAtPrefix, IsStep, Hop, IsPath}
+use Rattle.s66_moments.specs.{waits, AreKept, Leads}
 use Rattle.s66_moments.proofs.FactLaws.{among-so, depends-before, before-transitive, prefix-time_at, prefix-before}
 use Rattle.s66_moments.proofs.Soonest.{soonest-le, total-stays}
 use Rattle.s66_moments.proofs.TableArcs.{InOrder, arc-so}

@@ -1,21 +1,12 @@
 -- Steps that are taken show what is founded, and what is known after them is known by that, and by what is supposed.
-use Rattle.std.proofs.Common.{ℕ, ◌≡◌, ◌≢◌, true, false, true≢false, not, ◌&&◌, List, [], ◌∷◌, ◌++◌, map, refl, sym, ap, arith, inl, inr, eqb, leb, subst, Option, Some, None}
-use Rattle.std.proofs.lemmas.Bool.{and_parts, or_cases, not-true, eqb-false, leb-true}
-use Rattle.s66_isa.specs.Lists.{some_of, Among}
-use Rattle.s66_isa.specs.Table.{numbers}
-use Rattle.s66_model.specs.Timing.{Problem}
-use Rattle.s66_moments.specs.declared.moment.Stage.{Stage}
-use Rattle.s66_moments.specs.declared.moment.Stage.TheVariants.{Issue, Start}
-use Rattle.s66_moments.specs.declared.moment.Moment.TheVariants.{Origin, At, End}
-use Rattle.s66_moments.specs.declared.fact_line.FactLine.{FactLine}
-use Rattle.s66_moments.specs.declared.fact_line.FactStep.{FactStep}
+use Rattle.std.proofs.Common.{ℕ, ◌≡◌, ◌≢◌, true, false, true≢false, not, ◌&&◌, List, [], ◌∷◌, ◌++◌, map, refl, sym, ap, arith, inl, inr, eqb, leb, subst, Option, Some, None, leb-true}
+use Rattle.std.proofs.lemmas.Bool.{and_parts, or_cases, not-true, eqb-false}
+use Rattle.s66_isa.specs.{some_of, Among, numbers}
+use Rattle.s66_model.specs.{Problem}
+use Rattle.s66_moments.specs.{Stage, Issue, Start, Origin, At, End, FactLine, FactStep, Fact as SomeFact, Arc, Before, IsNumber, IsStep, Leads, same_moment, Line, fact_of, IsRefuted, AreFounded}
+use Rattle.s66_moments.specs.{facts_after, Known, line_of, is_number, is_taken, are_taken, known_after, with_line, plus, span, arcs_of, Supposition, Standing, standing_by, standing_first, with_step}
+use Rattle.s66_moments.specs.{standing_after, may_be_supposed, is_late_at, is_late_through, is_late_load, is_late, is_step_taken, are_steps_taken, shown_by, shown_by_all}
 use Rattle.s66_moments.specs.declared.fact_line.FactStep.TheVariants.{Fact, Suppose, Refuted}
-use Rattle.s66_moments.specs.Facts.{Fact as SomeFact, Arc, Before, IsNumber}
-use Rattle.s66_moments.specs.Paths.{IsStep, Leads}
-use Rattle.s66_moments.specs.Networks.{same_moment}
-use Rattle.s66_moments.specs.FactLines.{Line, fact_of, IsRefuted, AreFounded, facts_after}
-use Rattle.s66_moments.specs.KnownFacts.{Known, line_of, is_number, is_taken, are_taken, known_after, with_line, plus, span, arcs_of}
-use Rattle.s66_moments.specs.Suppositions.{Supposition, Standing, standing_by, standing_first, with_step, standing_after, may_be_supposed, is_late_at, is_late_through, is_late_load, is_late, is_step_taken, are_steps_taken, shown_by, shown_by_all}
 use Rattle.s66_moments.proofs.TableArcs.{and_three, and_five, some-found}
 use Rattle.s66_moments.proofs.MoreArcs.{same_moment-true}
 use Rattle.s66_moments.proofs.NextLeaves.{path-join, waits-join}

@@ -1,21 +1,14 @@
 -- In every legal order a moment comes after another at least by the arc of the table.
-use Rattle.std.proofs.Common.{ℕ, ◌+◌, ◌-◌, ◌≤◌, ◌≡◌, ◌⊎◌, ◌∙◌, Bool, true, false, true≢false, cond, not, ◌&&◌, List, [], ◌∷◌, refl, sym, ap, arith, inl, inr, eqb, subst, Some, None, Option}
-use Rattle.std.specs.Prelude.{unwrap_or, is_some}
-use Rattle.std.proofs.lemmas.Bool.{cond-true, cond-false, or_cases, or_left, or_right, and_parts, eqb-true, eq-eqb, ne_eqb, not-true, cases_Bool, cases_eq}
-use Rattle.s66_isa.specs.declared.reg.Reg.{Reg}
-use Rattle.s66_isa.specs.Lists.{some_of, Among}
-use Rattle.s66_isa.specs.Table.{Write, same_reg, same_kind, has_reg, memory_pair}
+use Rattle.std.proofs.Common.{ℕ, ◌+◌, ◌-◌, ◌≤◌, ◌≡◌, ◌⊎◌, ◌∙◌, Bool, true, false, true≢false, cond, not, ◌&&◌, List, [], ◌∷◌, refl, sym, ap, arith, inl, inr, eqb, subst, Some, None, Option, unwrap_or}
+use Rattle.std.proofs.Common.{is_some, eqb-true, eq-eqb, ne_eqb}
+use Rattle.std.proofs.lemmas.Bool.{cond-true, cond-false, or_cases, or_left, or_right, and_parts, not-true, cases_Bool, cases_eq}
+use Rattle.s66_isa.specs.{Reg, some_of, Among, Write, same_reg, same_kind, has_reg, memory_pair}
 use Rattle.s66_isa.proofs.Lists.{greatest-le}
 use Rattle.s66_isa.proofs.SameRegister.{same_reg-true}
-use Rattle.s66_model.specs.Timing.{Problem, row_at, copies}
-use Rattle.s66_model.specs.LegalOrder.{IsLegal, is_remaining}
-use Rattle.s66_moments.specs.declared.moment.Stage.{Stage}
-use Rattle.s66_moments.specs.declared.moment.Stage.TheVariants.{Issue, Start, Done, Free}
-use Rattle.s66_moments.specs.declared.moment.Moment.{Moment}
-use Rattle.s66_moments.specs.declared.moment.Moment.TheVariants.{Origin, At, End}
-use Rattle.s66_moments.specs.Moments.{time_of, writes, has_stage, is_moment, only_if, latency_to, fetches, own_arc, later_arc, arc}
-use Rattle.s66_moments.specs.Facts.{Before, IsSo, IsNumber}
+use Rattle.s66_model.specs.{Problem, row_at, copies, IsLegal, is_remaining}
 use Rattle.s66_model.proofs.Remaining.{remaining-parts}
+use Rattle.s66_moments.specs.{Stage, Issue, Start, Done, Free, Moment, Origin, At, End, time_of, writes, has_stage, is_moment, only_if, latency_to, fetches, own_arc, later_arc, arc, Before, IsSo}
+use Rattle.s66_moments.specs.{IsNumber}
 use Rattle.s66_moments.proofs.FactLaws.{free-last, done-last, issue-start, start-free, before-parcels, before-unit}
 use Rattle.s66_moments.proofs.BaseArcs.{start-done, held-free, read-start, written-issue, memory-start, reader-done}
 

@@ -1,24 +1,16 @@
 -- Tails of a network: each is reached by a path, no path is greater, and each follows from what is known.
-use Rattle.std.proofs.Common.{ℕ, zero, suc, ◌+◌, ◌-◌, ◌≤◌, ◌<◌, ◌≡◌, Bool, true, false, true≢false, cond, max, List, [], ◌∷◌, ◌++◌, length, map, refl, sym, ap, arith, inl, inr, ◌∙◌, subst, Some, None, Option}
-use Rattle.std.specs.Prelude.{unwrap_or, is_some}
-use Rattle.std.proofs.lemmas.Bool.{cond_both, cond-true, cond-false, or_cases, and_from, eqb-true, eq-eqb, ne_eqb, le-leb, cases_Bool, cases_eq}
-use Rattle.s66_isa.specs.declared.reg.Reg.{Reg}
-use Rattle.s66_isa.specs.Lists.{greatest, some_of, Among}
-use Rattle.s66_isa.specs.Table.{Row, Write, same_reg, numbers}
+use Rattle.std.proofs.Common.{ℕ, zero, suc, ◌+◌, ◌-◌, ◌≤◌, ◌<◌, ◌≡◌, Bool, true, false, true≢false, cond, max, List, [], ◌∷◌, ◌++◌, length, map, refl, sym, ap, arith, inl, inr, ◌∙◌, subst, Some, None}
+use Rattle.std.proofs.Common.{Option, unwrap_or, is_some, eqb-true, eq-eqb, ne_eqb, le-leb}
+use Rattle.std.proofs.lemmas.Bool.{cond_both, cond-true, cond-false, or_cases, and_from, cases_Bool, cases_eq}
+use Rattle.s66_isa.specs.{Reg, greatest, some_of, Among, Row, Write, same_reg, numbers}
 use Rattle.s66_isa.proofs.Lists.{greatest-le, le-greatest, among-front, among-rest, split-among}
 use Rattle.s66_isa.proofs.SameRegister.{same_reg-true, same_reg-self}
-use Rattle.s66_model.specs.Timing.{Problem, row_at, total_of}
-use Rattle.s66_model.specs.LegalOrder.{IsLegal, is_remaining, remaining}
-use Rattle.s66_moments.specs.declared.moment.Stage.{Stage}
-use Rattle.s66_moments.specs.declared.moment.Stage.TheVariants.{Issue, Start, Done, Free}
-use Rattle.s66_moments.specs.declared.moment.Moment.{Moment}
-use Rattle.s66_moments.specs.declared.moment.Moment.TheVariants.{Origin, At, End}
-use Rattle.s66_moments.specs.Moments.{time_of, has_stage, is_moment, soonest, own_arc, arc}
-use Rattle.s66_moments.specs.Facts.{Fact, Arc, Begins, AreSo, Follows}
-use Rattle.s66_moments.specs.Paths.{IsInOrder, Hop, waits}
-use Rattle.s66_moments.specs.Networks.{Network, is_in_order, network, AreArcs, moments_of, moments_among, targets, most_arcs, IsRising, IsPlaced, tail_over, tail, through, IsRemaining, IsNetworkPath, IsKnown, HasOwnArcs, soonest_path, greatest_path, RisesBy, rank_by, stage_rank, precedes, AreSteps}
+use Rattle.s66_model.specs.{Problem, row_at, total_of, IsLegal, is_remaining, remaining}
 use Rattle.s66_model.proofs.Remaining.{remaining-parts, among-remaining, remaining-among, all-remain}
 use Rattle.s66_model.proofs.LongestChain.{greatest-reached}
+use Rattle.s66_moments.specs.{Stage, Issue, Start, Done, Free, Moment, Origin, At, End, time_of, has_stage, is_moment, soonest, own_arc, arc, Fact, Arc, Begins, AreSo, Follows, IsInOrder, Hop, waits}
+use Rattle.s66_moments.specs.{Network, is_in_order, network, AreArcs, moments_of, moments_among, targets, most_arcs, IsRising, IsPlaced, tail_over, tail, through, IsRemaining, IsNetworkPath, IsKnown}
+use Rattle.s66_moments.specs.{HasOwnArcs, soonest_path, greatest_path, RisesBy, rank_by, stage_rank, precedes, AreSteps}
 use Rattle.s66_moments.proofs.TableArcs.{and_three, found-some, None-none, moment-parts, moment-number}
 use Rattle.s66_moments.proofs.Soonest.{soonest-le, stage-le-total}
 use Rattle.s66_moments.proofs.Steps.{step-so}

@@ -1,21 +1,13 @@
 -- A number that remains issues after the parcels of all that is known to stand before it.
 use Rattle.std.proofs.Common.{ℕ, ◌≤◌, ◌≡◌, Bool, true, false, true≢false, cond, List, [], ◌∷◌, ◌++◌, length, refl, sym, ap, arith, inl, inr, subst, ◌∙◌}
 use Rattle.std.proofs.lemmas.Bool.{cases_Bool}
-use Rattle.s66_isa.specs.Lists.{weigh, has, Among}
-use Rattle.s66_isa.specs.Table.{numbers}
+use Rattle.s66_isa.specs.{weigh, has, Among, numbers}
 use Rattle.s66_isa.proofs.Lists.{among-rising}
-use Rattle.s66_model.specs.Timing.{Problem, Point, row_at, points_of, next}
-use Rattle.s66_model.specs.LegalOrder.{IsLegal, IsBeginning, GoesOn, is_remaining, sum_remaining}
-use Rattle.s66_moments.specs.declared.moment.Stage.TheVariants.{Issue, Start}
-use Rattle.s66_moments.specs.declared.moment.Moment.TheVariants.{At}
-use Rattle.s66_moments.specs.Moments.{time_of}
-use Rattle.s66_moments.specs.Facts.{Fact, AreSo, IsNumber}
-use Rattle.s66_moments.specs.Networks.{IsKnown}
-use Rattle.s66_moments.specs.InUse.{ComesNoSooner}
-use Rattle.s66_moments.specs.KnownFacts.{Known, turn, issue_at_least, start_at_least}
+use Rattle.s66_model.specs.{Problem, Point, row_at, points_of, next, IsLegal, IsBeginning, GoesOn, is_remaining, sum_remaining}
 use Rattle.s66_model.proofs.LegalOrders.{GoesOn-append, sum_remaining-run}
 use Rattle.s66_model.proofs.Remaining.{remaining-parts, legal-parts}
 use Rattle.s66_model.proofs.PointTimes.{points_after-append, next-le-issue, next-grows}
+use Rattle.s66_moments.specs.{Issue, Start, At, time_of, Fact, AreSo, IsNumber, IsKnown, ComesNoSooner, Known, turn, issue_at_least, start_at_least}
 use Rattle.s66_moments.proofs.Placed.{time_at-placed}
 use Rattle.s66_moments.proofs.FactLaws.{before-front, later-place, issue-start}
 use Rattle.s66_moments.proofs.Soonest.{soonest-le}

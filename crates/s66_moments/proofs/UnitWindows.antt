@@ -1,11 +1,10 @@
 -- The units of a kind do no more work between two times than there are units.
-use Rattle.std.proofs.Common.{ℕ, zero, suc, ◌+◌, ◌-◌, ◌*◌, ◌≤◌, ◌<◌, ◌≡◌, Bool, true, false, cond, ◌&&◌, ◌||◌, max, min, List, [], ◌∷◌, refl, ap, arith, inl, inr, ltb, leb, eqb, subst, ◌∙◌}
-use Rattle.std.proofs.lemmas.Bool.{cond-true, cond-false, cases_Bool, cases_lt, lt-ltb, le-leb, lt-leb, and_left, eqb-true, eq-eqb}
-use Rattle.s66_isa.specs.declared.instr.Kind.{Kind}
-use Rattle.s66_isa.specs.Lists.{weigh, tally, has, Among}
-use Rattle.s66_isa.specs.Table.{same_kind}
+use Rattle.std.proofs.Common.{ℕ, zero, suc, ◌+◌, ◌-◌, ◌*◌, ◌≤◌, ◌<◌, ◌≡◌, Bool, true, false, cond, ◌&&◌, ◌||◌, max, min, List, [], ◌∷◌, refl, ap, arith, inl, inr, ltb, leb, eqb, subst, ◌∙◌, lt-ltb}
+use Rattle.std.proofs.Common.{le-leb, eqb-true, eq-eqb}
+use Rattle.std.proofs.lemmas.Bool.{cond-true, cond-false, cases_Bool, cases_lt, lt-leb, and_left}
+use Rattle.s66_isa.specs.{Kind, weigh, tally, has, Among, same_kind}
 use Rattle.s66_isa.proofs.Lists.{le-weigh}
-use Rattle.s66_model.specs.Timing.{Problem, Point, row_at, copies, point_of, points_after, busy_at}
+use Rattle.s66_model.specs.{Problem, Point, row_at, copies, point_of, points_after, busy_at}
 use Rattle.s66_model.proofs.LegalOrders.{at-most-one}
 use Rattle.s66_model.proofs.LoadBound.{fewer, at_issue-lt}
 use Rattle.s66_model.proofs.PointTimes.{point_of-row}

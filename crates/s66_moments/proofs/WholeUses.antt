@@ -1,10 +1,8 @@
 -- Between two times one unit has room for as many whole works as fit, so that all units have no more.
-use Rattle.std.proofs.Common.{ℕ, zero, suc, ◌+◌, ◌-◌, ◌*◌, ◌≤◌, ◌≡◌, true, cond, max, min, List, [], ◌∷◌, arith, inl, inr}
-use Rattle.std.proofs.lemmas.Bool.{cond-true, cond-false, cases_Bool, cases_lt, lt-ltb, le-leb}
-use Rattle.s66_isa.specs.declared.instr.Kind.{Kind}
-use Rattle.s66_isa.specs.Lists.{weigh, tally}
-use Rattle.s66_isa.specs.Table.{same_kind}
-use Rattle.s66_model.specs.Timing.{Point}
+use Rattle.std.proofs.Common.{ℕ, zero, suc, ◌+◌, ◌-◌, ◌*◌, ◌≤◌, ◌≡◌, true, cond, max, min, List, [], ◌∷◌, arith, inl, inr, lt-ltb, le-leb}
+use Rattle.std.proofs.lemmas.Bool.{cond-true, cond-false, cases_Bool, cases_lt}
+use Rattle.s66_isa.specs.{Kind, weigh, tally, same_kind}
+use Rattle.s66_model.specs.{Point}
 use Rattle.s66_moments.proofs.UnitWindows.{works_at, work_between}
 
 -- LOOKS: one at the last minor cycle of each of the first whole stretches from a on, which are v + 1 long

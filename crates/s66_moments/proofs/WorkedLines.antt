@@ -1,15 +1,9 @@
 -- Paths and lines of the worked blocks.
 use Rattle.std.proofs.Common.{[], ◌∷◌, refl, inl, inr, lit≤}
-use Rattle.s66_isa.specs.Table.{x_reg, row}
-use Rattle.s66_model.specs.Dependence.{conflict}
-use Rattle.s66_model.specs.Timing.{Problem, issue_of, start_of, point}
-use Rattle.s66_model.specs.Examples.{standard_problem, multiply_problem}
-use Rattle.s66_moments.specs.declared.moment.Stage.TheVariants.{Issue, Start, Done, Free}
-use Rattle.s66_moments.specs.declared.moment.Moment.TheVariants.{Origin, At, End}
-use Rattle.s66_moments.specs.Facts.{Before, Begins}
-use Rattle.s66_moments.specs.Paths.{Leads}
-use Rattle.s66_moments.specs.FactLines.{ForcedPair, IsTooLate, IsFounded}
-use Rattle.s66_moments.specs.Examples.{hop, two_adds, booleans_between, load_line, inner_line, until_free_line, two_copies_line, two_free_adds, still_line, first_of_two, two_sums}
+use Rattle.s66_isa.specs.{x_reg, row}
+use Rattle.s66_model.specs.{conflict, Problem, issue_of, start_of, point, standard_problem, multiply_problem}
+use Rattle.s66_moments.specs.{Issue, Start, Done, Free, Origin, At, End, Before, Begins, Leads, ForcedPair, IsTooLate, IsFounded, hop, two_adds, booleans_between, load_line, inner_line}
+use Rattle.s66_moments.specs.{until_free_line, two_copies_line, two_free_adds, still_line, first_of_two, two_sums}
 
 -- TWO OF ONE UNIT BETWEEN
 

@@ -1,11 +1,7 @@
 -- Used by examples alone: worked blocks, their COMPASS lines above each, paths through their moments, and lines that show their bounds, under the standard profile.
 use Rattle.std.specs.Prelude.{ℕ, Bool, List, [], ◌∷◌, Option}
-use Rattle.s66_isa.specs.declared.instr.Instr.{Instr}
-use Rattle.s66_isa.specs.declared.instr.Kind.TheVariants.{Boolean, Add, Multiply, Increment}
-use Rattle.s66_isa.specs.Table.{instr, x_reg}
-use Rattle.s66_model.specs.Leaves.{Load}
-use Rattle.s66_model.specs.Trees.{Tree, Parted, Siblings, NoMore, Unsplit, Split}
-use Rattle.s66_model.specs.Examples.{standard_problem}
+use Rattle.s66_isa.specs.{Instr, Boolean, Add, Multiply, Increment, instr, x_reg}
+use Rattle.s66_model.specs.{Load, Tree, Parted, Siblings, NoMore, Unsplit, Split, standard_problem}
 use Rattle.s66_moments.specs.declared.moment.Stage.{Stage}
 use Rattle.s66_moments.specs.declared.moment.Stage.TheVariants.{Issue, Start, Done, Free}
 use Rattle.s66_moments.specs.declared.moment.Moment.{Moment}
@@ -16,8 +12,7 @@ use Rattle.s66_moments.specs.FactLines.{Use, Line, LoadArc}
 use Rattle.s66_moments.specs.LineTrees.{LineEnding, AtLeaf}
 use Rattle.s66_moments.specs.declared.fact_line.FactLine.{FactLine}
 use Rattle.s66_moments.specs.declared.fact_line.FactLine.TheVariants as fact
-use Rattle.s66_moments.specs.KnownFacts.{Known, span, known_first, known_after, is_taken, next_value, is_turned, is_loaded, start_at_least}
-use Rattle.s66_moments.specs.KnownFacts.{arcs_of as known_arcs}
+use Rattle.s66_moments.specs.KnownFacts.{Known, span, known_first, known_after, is_taken, next_value, is_turned, is_loaded, start_at_least, arcs_of as known_arcs}
 use Rattle.s66_moments.specs.declared.fact_line.FactStep.{FactStep}
 use Rattle.s66_moments.specs.declared.fact_line.FactStep.TheVariants.{Fact, Suppose, Refuted}
 use Rattle.s66_moments.specs.Suppositions.{standing_first, standing_after, are_steps_taken, shown_by_all}

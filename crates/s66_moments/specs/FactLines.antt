@@ -1,9 +1,7 @@
 -- To be believed: lines that each give a fact of all legal orders that take less than a time, and on what they are founded: on what is known before them, and on that time.
 use Rattle.std.specs.Prelude.{ℕ, ◌+◌, ◌≡◌, ◌≢◌, ◌≤◌, ◌⊎◌, true, List, [], ◌∷◌, map}
-use Rattle.s66_isa.specs.declared.instr.Kind.{Kind}
-use Rattle.s66_isa.specs.Lists.{has, Among}
-use Rattle.s66_isa.specs.Table.{same_kind}
-use Rattle.s66_model.specs.Timing.{Problem, row_at, copies}
+use Rattle.s66_isa.specs.{Kind, has, Among, same_kind}
+use Rattle.s66_model.specs.{Problem, row_at, copies}
 use Rattle.s66_moments.specs.declared.moment.Stage.TheVariants.{Issue, Start, Free}
 use Rattle.s66_moments.specs.declared.moment.Moment.{Moment}
 use Rattle.s66_moments.specs.declared.moment.Moment.TheVariants.{Origin, At, End}

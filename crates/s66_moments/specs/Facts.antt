@@ -1,11 +1,7 @@
 -- To be believed: facts of an order, and which facts all legal orders have that take less than a time and have some facts already.
 use Rattle.std.specs.Prelude.{ℕ, ◌+◌, ◌*◌, ◌≡◌, ◌≤◌, ◌<◌, true, false, max, List, [], ◌∷◌, ◌++◌, length}
-use Rattle.s66_isa.specs.declared.instr.Kind.{Kind}
-use Rattle.s66_isa.specs.Lists.{least, weigh, has}
-use Rattle.s66_isa.specs.Table.{same_kind}
-use Rattle.s66_model.specs.Timing.{Problem, row_at, copies, total_of}
-use Rattle.s66_model.specs.LegalOrder.{IsLegal}
-use Rattle.s66_model.specs.Leaves.{over}
+use Rattle.s66_isa.specs.{Kind, least, weigh, has, same_kind}
+use Rattle.s66_model.specs.{Problem, row_at, copies, total_of, IsLegal, over}
 use Rattle.s66_moments.specs.declared.moment.Stage.TheVariants.{Issue, Free}
 use Rattle.s66_moments.specs.declared.moment.Moment.{Moment}
 use Rattle.s66_moments.specs.declared.moment.Moment.TheVariants.{At}

@@ -1,11 +1,7 @@
 -- To be believed: when one beginning dominates another of the same numbers in use: what a number that remains will wait for counts only from the moment on at which the number could look at it at the soonest.
 use Rattle.std.specs.Prelude.{ℕ, ◌+◌, ◌≡◌, ◌<◌, ◌≤◌, ◌⊎◌, true, max, List, ◌∷◌, ◌++◌, get_or}
-use Rattle.s66_isa.specs.declared.reg.Reg.{Reg}
-use Rattle.s66_isa.specs.Lists.{Among}
-use Rattle.s66_isa.specs.Table.{Write}
-use Rattle.s66_model.specs.Timing.{Problem, Point, row_at, copies, points_of, next, done_of, memory_wait, readers_wait, total_of}
-use Rattle.s66_model.specs.LegalOrder.{IsLegal, IsBeginning, is_remaining}
-use Rattle.s66_model.specs.Dominance.{place_in_word, free_times, IsSameSet}
+use Rattle.s66_isa.specs.{Reg, Among, Write}
+use Rattle.s66_model.specs.{Problem, Point, row_at, copies, points_of, next, done_of, memory_wait, readers_wait, total_of, IsLegal, IsBeginning, is_remaining, place_in_word, free_times, IsSameSet}
 use Rattle.s66_moments.specs.declared.moment.Stage.TheVariants.{Issue, Start}
 use Rattle.s66_moments.specs.declared.moment.Moment.TheVariants.{Origin, At}
 use Rattle.s66_moments.specs.Facts.{Fact, Arc, Begins, AreSo, Follows}

@@ -2,11 +2,8 @@
 --
 -- `FORMATS.md`, "Fact lines" and "Leaves by facts", has the tests in words.
 use Rattle.std.specs.Prelude.{ℕ, zero, suc, ◌+◌, ◌≡◌, ◌≤◌, Bool, true, false, if◌then◌else◌, not, ◌||◌, ◌&&◌, ◌==◌, max, List, [], ◌∷◌, ◌++◌, map, length, nat_le, nat_lt, get_or, Option, Some, None}
-use Rattle.s66_isa.specs.declared.instr.Kind.{Kind}
-use Rattle.s66_isa.specs.Lists.{greatest, every, has}
-use Rattle.s66_isa.specs.Table.{same_kind}
-use Rattle.s66_model.specs.Timing.{Problem, row_at, copies, points_of, next}
-use Rattle.s66_model.specs.LegalOrder.{is_remaining, sum_remaining}
+use Rattle.s66_isa.specs.{Kind, greatest, every, has, same_kind}
+use Rattle.s66_model.specs.{Problem, row_at, copies, points_of, next, is_remaining, sum_remaining}
 use Rattle.s66_moments.specs.declared.moment.Stage.{Stage}
 use Rattle.s66_moments.specs.declared.moment.Stage.TheVariants.{Issue, Start, Done, Free}
 use Rattle.s66_moments.specs.declared.moment.Moment.{Moment}

@@ -1,13 +1,7 @@
 -- To be believed: trees whose unsplit prefixes are closed by leaves or by lines, or name a node that dominates them, and what they show.
 use Rattle.std.specs.Prelude.{ℕ, ◌≡◌, ◌≤◌, Bool, true, false, List, [], ◌∷◌, Option, Some, None}
-use Rattle.s66_model.specs.declared.rule.Rule.{Rule}
-use Rattle.s66_model.specs.declared.rule.Rule.TheVariants.{NoneNamed, WrittenEarlier, ClampedStanding}
-use Rattle.s66_model.specs.Timing.{Problem}
-use Rattle.s66_model.specs.LegalOrder.{IsIncomplete}
-use Rattle.s66_model.specs.Leaves.{Leaf}
-use Rattle.s66_model.specs.Trees.{Tree, Vertex, AtTerminal, AtSplit, TreeHolds, LeafShows}
-use Rattle.s66_model.specs.NodeNames.{node_named, is_node}
-use Rattle.s66_model.specs.DominatedLeaves.{DominatesByRule}
+use Rattle.s66_model.specs.{Rule, NoneNamed, WrittenEarlier, ClampedStanding, Problem, IsIncomplete, Leaf, Tree, Vertex, AtTerminal, AtSplit, TreeHolds, LeafShows, node_named, is_node}
+use Rattle.s66_model.specs.{DominatesByRule}
 use Rattle.s66_moments.specs.Facts.{Fact, Begins}
 use Rattle.s66_moments.specs.FactLines.{Line, IsTooLate, AreFounded, facts_after}
 use Rattle.s66_moments.specs.InUse.{DominatesInUse}

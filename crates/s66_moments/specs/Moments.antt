@@ -1,10 +1,7 @@
 -- To be believed: the moments of an order, when each is, and how much later one comes at least than another (Reference Manual, central processor, functional units and reservation control).
 use Rattle.std.specs.Prelude.{ℕ, ◌+◌, Bool, true, if◌then◌else◌, not, ◌&&◌, ◌==◌, List, [], Option, Some, None}
-use Rattle.s66_isa.specs.declared.reg.Reg.{Reg}
-use Rattle.s66_isa.specs.Lists.{greatest, some_of}
-use Rattle.s66_isa.specs.Table.{Row, Write, same_reg, same_kind, has_reg, memory_pair}
-use Rattle.s66_model.specs.Timing.{Problem, Point, row_at, copies, done_at, point_of, points_of, total_of}
-use Rattle.s66_model.specs.LegalOrder.{is_remaining}
+use Rattle.s66_isa.specs.{Reg, greatest, some_of, Row, Write, same_reg, same_kind, has_reg, memory_pair}
+use Rattle.s66_model.specs.{Problem, Point, row_at, copies, done_at, point_of, points_of, total_of, is_remaining}
 use Rattle.s66_moments.specs.declared.moment.Stage.{Stage}
 use Rattle.s66_moments.specs.declared.moment.Stage.TheVariants.{Issue, Start, Done, Free}
 use Rattle.s66_moments.specs.declared.moment.Moment.{Moment}

@@ -1,9 +1,7 @@
 -- To be believed: paths from moment to moment, each step an arc of the table, a known fact, or what a prefix decides.
 use Rattle.std.specs.Prelude.{ℕ, ◌+◌, ◌≡◌, ◌≤◌, ◌⊎◌, Bool, true, false, List, [], ◌∷◌, Some}
-use Rattle.s66_isa.specs.Lists.{weigh, has, Among}
-use Rattle.s66_model.specs.Timing.{Problem, total_of}
-use Rattle.s66_model.specs.Dependence.{depends}
-use Rattle.s66_model.specs.LegalOrder.{is_remaining}
+use Rattle.s66_isa.specs.{weigh, has, Among}
+use Rattle.s66_model.specs.{Problem, total_of, depends, is_remaining}
 use Rattle.s66_moments.specs.declared.moment.Moment.{Moment}
 use Rattle.s66_moments.specs.declared.moment.Moment.TheVariants.{Origin, At, End}
 use Rattle.s66_moments.specs.Moments.{time_of, is_moment, soonest, arc}

@@ -1,8 +1,7 @@
 -- To be believed: fact lines with suppositions among them, as a certificate has them: which are taken, what is known after them, and what they show of all orders.
 use Rattle.std.specs.Prelude.{ℕ, Bool, true, false, not, ◌&&◌, ◌||◌, ◌==◌, List, [], ◌∷◌, ◌++◌, nat_le, Option, Some, None, is_some}
-use Rattle.s66_isa.specs.Lists.{some_of}
-use Rattle.s66_isa.specs.Table.{numbers}
-use Rattle.s66_model.specs.Timing.{Problem}
+use Rattle.s66_isa.specs.{some_of, numbers}
+use Rattle.s66_model.specs.{Problem}
 use Rattle.s66_moments.specs.declared.moment.Stage.{Stage}
 use Rattle.s66_moments.specs.declared.moment.Stage.TheVariants.{Issue, Start}
 use Rattle.s66_moments.specs.declared.moment.Moment.TheVariants.{Origin, At, End}

@@ -2,74 +2,15 @@
 //! The functions do nothing.
 
 ghost use Rattle.std.specs.Prelude.{ℕ, [], ◌∷◌, ◌++◌, ◌+◌, ◌≡◌, ◌≤◌, true, false, Some, None};
-ghost use Rattle.s66_isa.specs.declared.instr.Kind.TheVariants.{Boolean};
-ghost use Rattle.s66_isa.specs.Table.{a_reg, x_reg};
-ghost use Rattle.s66_model.specs.declared.rule.Rule.TheVariants.{NoneNamed, WrittenEarlier, ClampedStanding};
-ghost use Rattle.s66_model.specs.Timing.{total_of};
-ghost use Rattle.s66_model.specs.BestAndBound.{IsBound};
-ghost use Rattle.s66_model.specs.Leaves.{Load, chain};
-ghost use Rattle.s66_model.specs.Trees.{Alone};
-ghost use Rattle.s66_model.specs.Dominance.{DominatesClamped};
-ghost use Rattle.s66_model.specs.Examples.{
-  standard_problem,
-  floor_in,
-  load_problem,
-  multiply_problem,
-  one_load,
-  first_order,
-  third_order,
-  store_then_load,
-  two_loads,
-  three_increments,
-  late_result,
-};
-ghost use Rattle.s66_moments.specs.declared.moment.Stage.TheVariants.{Issue, Start, Done, Free};
-ghost use Rattle.s66_moments.specs.declared.moment.Moment.TheVariants.{Origin, At, End};
-ghost use Rattle.s66_moments.specs.Moments.{time_of, soonest};
-ghost use Rattle.s66_moments.specs.Facts.{Before, Begins};
-ghost use Rattle.s66_moments.specs.Paths.{waits};
-ghost use Rattle.s66_moments.specs.Networks.{IsRemaining, IsNetworkPath, precedes, tail, greatest_path};
-ghost use Rattle.s66_moments.specs.FactLines.{ForcedPair, Supposed, IsTooLate, IsFounded};
-ghost use Rattle.s66_moments.specs.InUse.{DominatesInUse};
-ghost use Rattle.s66_moments.specs.LineTrees.{AtLines, DominatedBy, ShowsByLines};
-ghost use Rattle.s66_moments.specs.Examples.{
-  arcs_of,
-  arc_in,
-  two_adds,
-  unit_path,
-  boolean_between_adds,
-  two_multiplies,
-  booleans_between,
-  load_line,
-  inner_line,
-  two_copies_line,
-  until_free_line,
-  two_free_adds,
-  still_line,
-  first_of_two,
-  two_sums,
-  waits_for_the_unit,
-  waits_for_x1,
-  waits_for_two_parcels,
-  product_and_booleans,
-  split_once,
-  increments_load,
-  increments_tree,
-  load_fact,
-  span_after,
-  is_taken_after,
-  next_after,
-  is_loaded_after,
-  two_copies_of_a_quotient,
-  is_turned_after,
-  start_after,
-  three_free_adds,
-  are_steps_taken_of,
-  known_after_steps,
-  lines_shown,
-  second_by_lines,
-};
-ghost use Rattle.s66_moments.specs.declared.fact_line.FactLine.TheVariants.{Pair};
+ghost use Rattle.s66_isa.specs.{Boolean, a_reg, x_reg};
+ghost use Rattle.s66_model.specs.{NoneNamed, WrittenEarlier, ClampedStanding, total_of, IsBound, Load, chain, Alone, DominatesClamped, standard_problem, floor_in, load_problem, multiply_problem};
+ghost use Rattle.s66_model.specs.{one_load, first_order, third_order, store_then_load, two_loads, three_increments, late_result};
+ghost use Rattle.s66_moments.specs.{Issue, Start, Done, Free, Origin, At, End, time_of, soonest, Before, Begins, waits, IsRemaining, IsNetworkPath, precedes, tail, greatest_path, ForcedPair, Supposed};
+ghost use Rattle.s66_moments.specs.{IsTooLate, IsFounded, DominatesInUse, AtLines, DominatedBy, ShowsByLines, arc_in, two_adds, unit_path, boolean_between_adds, two_multiplies, booleans_between};
+ghost use Rattle.s66_moments.specs.{load_line, inner_line, two_copies_line, until_free_line, two_free_adds, still_line, first_of_two, two_sums, waits_for_the_unit, waits_for_x1, waits_for_two_parcels};
+ghost use Rattle.s66_moments.specs.{product_and_booleans, split_once, increments_load, increments_tree, load_fact, span_after, is_taken_after, next_after, is_loaded_after, two_copies_of_a_quotient};
+ghost use Rattle.s66_moments.specs.{is_turned_after, start_after, three_free_adds, are_steps_taken_of, known_after_steps, lines_shown, second_by_lines, Pair};
+ghost use Rattle.s66_moments.specs.Examples.{arcs_of};
 ghost use Rattle.s66_moments.specs.declared.fact_line.FactStep.TheVariants.{Fact, Suppose, Refuted};
 
 /// Which moments have an arc, and of how long.

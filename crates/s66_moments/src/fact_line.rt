@@ -26,7 +26,7 @@ pub enum FactStep {
 
 impl FactStep {
     ghost use Rattle.std.specs.Prelude.{◌≡◌};
-    ghost use Rattle.s66_moments.specs.Suppositions.{begins, supposes};
+    ghost use Rattle.s66_moments.specs.{begins, supposes};
 
     /// Whether it begins a supposition.
     pub fn begins(&self) -> bool

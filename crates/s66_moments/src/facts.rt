@@ -2,17 +2,10 @@
 //! A fact is an arc, a pair or a prefix.
 
 ghost use Rattle.std.specs.Prelude.{ℕ, List, ◌∷◌, ◌+◌, ◌≡◌, ◌≢◌, ◌≤◌, ◌<◌, true, map, length};
-ghost use Rattle.s66_isa.specs.declared.instr.Kind.{Kind};
-ghost use Rattle.s66_isa.specs.Lists.{Among, has};
-ghost use Rattle.s66_model.specs.Timing.{Problem, row_at, total_of};
-ghost use Rattle.s66_model.specs.LegalOrder.{is_remaining};
-ghost use Rattle.s66_moments.specs.declared.moment.Stage.{Stage};
-ghost use Rattle.s66_moments.specs.declared.moment.Stage.TheVariants.{Issue, Free};
-ghost use Rattle.s66_moments.specs.declared.moment.Moment.{Moment};
-ghost use Rattle.s66_moments.specs.declared.moment.Moment.TheVariants.{Origin, At, End};
-ghost use Rattle.s66_moments.specs.Moments.{time_of, soonest};
-ghost use Rattle.s66_moments.specs.Facts.{Fact, Arc, Before, Begins, Follows, NoOrder, IsNumber, IsOnlyUnit, Work, AreOnce, IsWithin, load_time};
-ghost use Rattle.s66_moments.specs.Paths.{Precedes, IsPlacedFirst};
+ghost use Rattle.s66_isa.specs.{Kind, Among, has};
+ghost use Rattle.s66_model.specs.{Problem, row_at, total_of, is_remaining};
+ghost use Rattle.s66_moments.specs.{Stage, Issue, Free, Moment, Origin, At, End, time_of, soonest, Fact, Arc, Before, Begins, Follows, NoOrder, IsNumber, IsOnlyUnit, Work, AreOnce, IsWithin};
+ghost use Rattle.s66_moments.specs.{load_time, Precedes, IsPlacedFirst};
 
 /// What is known follows, and so does all that follows from it. Arcs compose, and may be shortened; what follows of a time follows of
 /// each that is less, and if the end comes at the time or later, no order takes less.

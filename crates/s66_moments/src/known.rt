@@ -2,19 +2,10 @@
 //! Laws for a checker: a tree whose leaves are right by what is known shows its bound.
 
 ghost use Rattle.std.specs.Prelude.{ℕ, List, [], ◌∷◌, ◌≡◌, ◌≤◌, true, map, Some};
-ghost use Rattle.s66_model.specs.Timing.{Problem};
-ghost use Rattle.s66_model.specs.LegalOrder.{is_remaining};
-ghost use Rattle.s66_moments.specs.declared.moment.Moment.{Moment};
-ghost use Rattle.s66_moments.specs.declared.moment.Moment.TheVariants.{End};
-ghost use Rattle.s66_moments.specs.declared.fact_line.FactLine.{FactLine};
-ghost use Rattle.s66_moments.specs.Moments.{is_moment, only_if};
-ghost use Rattle.s66_moments.specs.Facts.{Begins};
-ghost use Rattle.s66_moments.specs.Paths.{Hop, waits};
-ghost use Rattle.s66_moments.specs.Networks.{Network, IsKnown, AreSteps, IsRising, HasOwnArcs, IsTransitive, HasNoRing, targets, IsNetworkPath, same_moment, tail};
-ghost use Rattle.s66_moments.specs.FactLines.{IsTooLate, AreFounded, facts_after};
-ghost use Rattle.s66_moments.specs.InUse.{ComesNoSooner};
-ghost use Rattle.s66_moments.specs.LineTrees.{IsClosedByLines};
-ghost use Rattle.s66_moments.specs.KnownFacts.{line_of, later, latest, plus, span, known_first, known_after, arcs_of, are_taken, next_value, is_turned, is_loaded, load_of, issue_at_least, start_at_least};
+ghost use Rattle.s66_model.specs.{Problem, is_remaining};
+ghost use Rattle.s66_moments.specs.{Moment, End, FactLine, is_moment, only_if, Begins, Hop, waits, Network, IsKnown, AreSteps, IsRising, HasOwnArcs, IsTransitive, HasNoRing, targets, IsNetworkPath};
+ghost use Rattle.s66_moments.specs.{same_moment, tail, IsTooLate, AreFounded, facts_after, ComesNoSooner, IsClosedByLines, line_of, later, latest, plus, span, known_first, known_after, arcs_of};
+ghost use Rattle.s66_moments.specs.{are_taken, next_value, is_turned, is_loaded, load_of, issue_at_least, start_at_least};
 
 /// A span is how long some path takes, and if no arcs form a ring none takes longer. So it is the latest of the arcs from its first
 /// moment, each with the span from where it leads, and of the arcs to its last one, each with the span to where it comes from.

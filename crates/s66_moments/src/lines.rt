@@ -2,22 +2,9 @@
 //! Laws say on what a fact line may be founded, and what a tree shows by lines.
 
 ghost use Rattle.std.specs.Prelude.{ℕ, List, [], ◌∷◌, ◌++◌, ◌+◌, ◌≡◌, ◌≤◌, true};
-ghost use Rattle.s66_model.specs.declared.rule.Rule.{Rule};
-ghost use Rattle.s66_model.specs.Timing.{Problem, total_of};
-ghost use Rattle.s66_model.specs.LegalOrder.{IsLegal, is_remaining};
-ghost use Rattle.s66_model.specs.BestAndBound.{IsBound};
-ghost use Rattle.s66_model.specs.Trees.{Tree};
-ghost use Rattle.s66_moments.specs.declared.moment.Stage.{Stage};
-ghost use Rattle.s66_moments.specs.declared.moment.Stage.TheVariants.{Issue, Start};
-ghost use Rattle.s66_moments.specs.declared.moment.Moment.TheVariants.{At};
-ghost use Rattle.s66_moments.specs.Moments.{soonest};
-ghost use Rattle.s66_moments.specs.Facts.{Fact, Begins, Follows, IsNumber};
-ghost use Rattle.s66_moments.specs.Paths.{Precedes, IsPlacedFirst};
-ghost use Rattle.s66_moments.specs.Networks.{Network, AreSteps, IsRemaining, tail};
-ghost use Rattle.s66_model.specs.Dominance.{DominatesClamped};
-ghost use Rattle.s66_moments.specs.InUse.{ComesNoSooner, DominatesInUse, IsNoWorseBelow};
-ghost use Rattle.s66_moments.specs.FactLines.{Line, fact_of, IsTooLate, IsFounded, AreFounded, facts_after};
-ghost use Rattle.s66_moments.specs.LineTrees.{LineEnding, ShowsByLines};
+ghost use Rattle.s66_model.specs.{Rule, Problem, total_of, IsLegal, is_remaining, IsBound, Tree, DominatesClamped};
+ghost use Rattle.s66_moments.specs.{Stage, Issue, Start, At, soonest, Fact, Begins, Follows, IsNumber, Precedes, IsPlacedFirst, Network, AreSteps, IsRemaining, tail, ComesNoSooner, DominatesInUse};
+ghost use Rattle.s66_moments.specs.{IsNoWorseBelow, Line, fact_of, IsTooLate, IsFounded, AreFounded, facts_after, LineEnding, ShowsByLines};
 
 /// A line's fact follows from what is known before it, if it is founded on that. So what follows from all lines follows from what was
 /// known before them, and lines that are founded for a time are founded for each that is less.

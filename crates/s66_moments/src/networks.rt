@@ -2,18 +2,10 @@
 //! Floors by longest paths rest on them.
 
 ghost use Rattle.std.specs.Prelude.{ℕ, List, Bool, ◌∷◌, ◌++◌, ◌+◌, ◌≡◌, ◌≢◌, ◌≤◌, ◌<◌, ◌⊎◌, true, false, length, max, Some, unwrap_or};
-ghost use Rattle.s66_isa.specs.declared.instr.Instr.{Instr};
-ghost use Rattle.s66_isa.specs.Lists.{Among};
-ghost use Rattle.s66_model.specs.Timing.{Problem, total_of};
-ghost use Rattle.s66_model.specs.Dependence.{depends};
-ghost use Rattle.s66_model.specs.LegalOrder.{IsLegal, is_remaining};
-ghost use Rattle.s66_moments.specs.declared.moment.Stage.{Stage};
-ghost use Rattle.s66_moments.specs.declared.moment.Moment.{Moment};
-ghost use Rattle.s66_moments.specs.declared.moment.Moment.TheVariants.{Origin, At, End};
-ghost use Rattle.s66_moments.specs.Moments.{soonest};
-ghost use Rattle.s66_moments.specs.Facts.{Fact, Arc, Before, Begins, Follows, IsNumber};
-ghost use Rattle.s66_moments.specs.Paths.{Hop, waits};
-ghost use Rattle.s66_moments.specs.Networks.{Network, network, precedes, IsKnown, AreArcs, IsRising, IsPlaced, HasOwnArcs, targets, tail, IsRemaining, IsNetworkPath, greatest_path, RisesBy, with_arc, with_pair, most_arcs, rank_by, AreSteps, IsTransitive, HasNoRing, place_by};
+ghost use Rattle.s66_isa.specs.{Instr, Among};
+ghost use Rattle.s66_model.specs.{Problem, total_of, depends, IsLegal, is_remaining};
+ghost use Rattle.s66_moments.specs.{Stage, Moment, Origin, At, End, soonest, Fact, Arc, Before, Begins, Follows, IsNumber, Hop, waits, Network, network, precedes, IsKnown, AreArcs, IsRising, IsPlaced};
+ghost use Rattle.s66_moments.specs.{HasOwnArcs, targets, tail, IsRemaining, IsNetworkPath, greatest_path, RisesBy, with_arc, with_pair, most_arcs, rank_by, AreSteps, IsTransitive, HasNoRing, place_by};
 
 /// What a number precedes by dependence: what depends on it, and what depends on what it precedes. This is so whatever is known,
 /// transitive, and without a ring.

@@ -1,10 +1,8 @@
 //! Paths of moments, each some time after the one before it.
 
 ghost use Rattle.std.specs.Prelude.{ℕ, List, Bool, ◌+◌, ◌≡◌, ◌≤◌, true};
-ghost use Rattle.s66_model.specs.Timing.{Problem};
-ghost use Rattle.s66_moments.specs.declared.moment.Moment.{Moment};
-ghost use Rattle.s66_moments.specs.Facts.{Fact, Arc, Follows};
-ghost use Rattle.s66_moments.specs.Paths.{IsStep, AreKept, Leads};
+ghost use Rattle.s66_model.specs.{Problem};
+ghost use Rattle.s66_moments.specs.{Moment, Fact, Arc, Follows, IsStep, AreKept, Leads};
 
 /// In each legal order that has what is known, a step takes as long at least as it says: by an arc of the table, by a known fact, or
 /// by what a known prefix decides. So does a path of steps.

@@ -1,21 +1,11 @@
 //! Fact lines with suppositions among them: what is known after those that are taken, and what they show of all orders.
 
 ghost use Rattle.std.specs.Prelude.{ℕ, List, [], ◌∷◌, ◌≡◌, ◌≤◌, true, map, Some, None};
-ghost use Rattle.s66_model.specs.Timing.{Problem};
-ghost use Rattle.s66_model.specs.LegalOrder.{is_remaining};
-ghost use Rattle.s66_moments.specs.declared.moment.Moment.{Moment};
-ghost use Rattle.s66_moments.specs.declared.moment.Moment.TheVariants.{End};
-ghost use Rattle.s66_moments.specs.declared.fact_line.FactLine.{FactLine};
-ghost use Rattle.s66_moments.specs.declared.fact_line.FactStep.{FactStep};
+ghost use Rattle.s66_model.specs.{Problem, is_remaining};
+ghost use Rattle.s66_moments.specs.{Moment, End, FactLine, FactStep, is_moment, Begins, IsKnown, AreSteps, IsRising, HasOwnArcs, IsTransitive, HasNoRing, tail, IsTooLate, AreFounded, facts_after};
+ghost use Rattle.s66_moments.specs.{ComesNoSooner, IsClosedByLines, Known, line_of, span, known_after, arcs_of, are_taken, next_value, is_turned, is_loaded, load_of, issue_at_least, start_at_least};
+ghost use Rattle.s66_moments.specs.{standing_by, standing_first, standing_after, are_steps_taken, shown_by_all};
 ghost use Rattle.s66_moments.specs.declared.fact_line.FactStep.TheVariants.{Fact};
-ghost use Rattle.s66_moments.specs.Moments.{is_moment};
-ghost use Rattle.s66_moments.specs.Facts.{Begins};
-ghost use Rattle.s66_moments.specs.Networks.{IsKnown, AreSteps, IsRising, HasOwnArcs, IsTransitive, HasNoRing, tail};
-ghost use Rattle.s66_moments.specs.FactLines.{IsTooLate, AreFounded, facts_after};
-ghost use Rattle.s66_moments.specs.InUse.{ComesNoSooner};
-ghost use Rattle.s66_moments.specs.LineTrees.{IsClosedByLines};
-ghost use Rattle.s66_moments.specs.KnownFacts.{Known, line_of, span, known_after, arcs_of, are_taken, next_value, is_turned, is_loaded, load_of, issue_at_least, start_at_least};
-ghost use Rattle.s66_moments.specs.Suppositions.{standing_by, standing_first, standing_after, are_steps_taken, shown_by_all};
 
 /// If each of these steps is taken, what they show is founded. The arcs of what is known after them form no ring, and lack none of an
 /// instruction. Where no supposition is open, all that is known follows from what is shown, and leaves that are right by it close their

@@ -1,17 +1,10 @@
 use Rattle.std.proofs.Common.{ℕ, zero, suc, ◌≡◌, true, true≢false, List, [], ◌∷◌, refl, sym, inl, inr, arith, rules, lit≤}
-use Rattle.s66_isa.specs.Table.{row, x_reg}
-use Rattle.s66_isa.specs.declared.instr.Instr.{Instr}
-use Rattle.s66_model.specs.Dependence.{conflict}
-use Rattle.s66_model.specs.Timing.{issue_of, start_of, point, points_of}
-use Rattle.s66_model.specs.LegalOrder.{IsLegal, is_remaining}
-use Rattle.s66_model.specs.Examples.{standard_problem}
-use Rattle.s66_moments.specs.declared.moment.Stage.TheVariants.{Issue, Start}
-use Rattle.s66_moments.specs.Moments.{soonest}
-use Rattle.s66_moments.specs.InUse.{FindsNoLater, FindsInUse}
-use Rattle.s66_moments.specs.KnownFacts.{Known, known_first, issue_at_least, start_at_least}
-use Rattle.s66_moments.specs.Examples.{waits_for_the_unit, waits_for_x1, waits_for_two_parcels, product_and_booleans}
+use Rattle.s66_isa.specs.{row, x_reg, Instr}
+use Rattle.s66_model.specs.{conflict, issue_of, start_of, point, points_of, IsLegal, is_remaining, standard_problem}
 use Rattle.s66_model.proofs.LegalOrders.{order-legal}
 use Rattle.s66_model.proofs.Remaining.{remaining-parts}
+use Rattle.s66_moments.specs.{Issue, Start, soonest, FindsNoLater, FindsInUse, Known, known_first, issue_at_least, start_at_least, waits_for_the_unit, waits_for_x1, waits_for_two_parcels}
+use Rattle.s66_moments.specs.{product_and_booleans}
 use Rattle.s66_moments.proofs.InUse.{next-comes}
 use Rattle.s66_moments.proofs.Preceders.{precedes-known}
 use Rattle.s66_moments.proofs.Turns.{turn-comes}

@@ -1,15 +1,7 @@
 use Rattle.std.proofs.Common.{[], ◌∷◌, refl, inl, inr, lit≤, rules}
-use Rattle.s66_isa.specs.Table.{x_reg, row}
-use Rattle.s66_model.specs.Dependence.{conflict}
-use Rattle.s66_model.specs.Timing.{issue_of, start_of, point}
-use Rattle.s66_model.specs.declared.rule.Rule.TheVariants.{NoneNamed}
-use Rattle.s66_model.specs.Dominance.{DominatesClamped}
-use Rattle.s66_model.specs.Examples.{standard_problem, three_increments}
-use Rattle.s66_model.specs.Trees.{Alone}
-use Rattle.s66_moments.specs.declared.moment.Stage.TheVariants.{Issue, Start, Done, Free}
-use Rattle.s66_moments.specs.declared.moment.Moment.TheVariants.{At, End}
-use Rattle.s66_moments.specs.LineTrees.{AtLines, ShowsByLines}
-use Rattle.s66_moments.specs.Examples.{hop, booleans_between, load_line}
+use Rattle.s66_isa.specs.{x_reg, row}
+use Rattle.s66_model.specs.{conflict, issue_of, start_of, point, NoneNamed, DominatesClamped, standard_problem, three_increments, Alone}
+use Rattle.s66_moments.specs.{Issue, Start, Done, Free, At, End, AtLines, ShowsByLines, hop, booleans_between, load_line}
 use Rattle.s66_moments.proofs.InUse.{clamped-in_use}
 use Rattle.s66_moments.proofs.ClosedTrees.{lines-below}
 use Rattle.s66_moments.proofs.WorkedLines.{from_start, between_two, by_parcels, by_unit, other_way}

@@ -1,9 +1,7 @@
 use Rattle.std.proofs.Common.{refl}
-use Rattle.s66_isa.specs.Table.{row}
-use Rattle.s66_model.specs.Dependence.{conflict}
-use Rattle.s66_model.specs.Timing.{issue_of, start_of, point}
-use Rattle.s66_model.specs.Examples.{standard_problem}
-use Rattle.s66_moments.specs.Examples.{three_free_adds, second_by_lines}
+use Rattle.s66_isa.specs.{row}
+use Rattle.s66_model.specs.{conflict, issue_of, start_of, point, standard_problem}
+use Rattle.s66_moments.specs.{three_free_adds, second_by_lines}
 use Rattle.s66_moments.proofs.SupposedLines.{after-stands}
 use Rattle.s66_moments.proofs.examples.supposition_examples.Goals as goal
 

@@ -1,5 +1,5 @@
 use Rattle.std.proofs.Common.{arith}
-use Rattle.s66_moments.specs.Moments.{stage_time}
+use Rattle.s66_moments.specs.{stage_time}
 use Rattle.s66_moments.proofs.FactLaws.{prefix-time_at, prefix-before}
 use Rattle.s66_moments.proofs.Soonest.{soonest-le, total-stays}
 use Rattle.s66_moments.proofs.facts.prefix_law.Goals as goal

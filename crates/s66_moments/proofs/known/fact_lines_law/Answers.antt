@@ -1,9 +1,6 @@
 use Rattle.std.proofs.Common.{ℕ, ◌≡◌, true, List, [], map}
-use Rattle.s66_model.specs.Timing.{Problem}
-use Rattle.s66_moments.specs.declared.fact_line.FactLine.{FactLine}
-use Rattle.s66_moments.specs.Facts.{Fact}
-use Rattle.s66_moments.specs.FactLines.{facts_after}
-use Rattle.s66_moments.specs.KnownFacts.{Known, line_of, known_first, known_after, are_taken}
+use Rattle.s66_model.specs.{Problem}
+use Rattle.s66_moments.specs.{FactLine, Fact, facts_after, Known, line_of, known_first, known_after, are_taken}
 use Rattle.s66_moments.proofs.KnownLines.{IsSound, after-sound, arcs-steps, arcs-own, arcs-rise, next-too_late, turned-too_late, span-tail}
 use Rattle.s66_moments.proofs.LoadLeaves.{loaded-closed}
 use Rattle.s66_moments.proofs.Turns.{turn-comes}

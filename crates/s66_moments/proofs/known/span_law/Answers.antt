@@ -1,6 +1,5 @@
+use Rattle.s66_moments.specs.{waits, span}
 use Rattle.s66_moments.proofs.Spans.{some-height, span-path, span-high, span-from_front, span-from_back}
-use Rattle.s66_moments.specs.Paths.{waits}
-use Rattle.s66_moments.specs.KnownFacts.{span}
 use Rattle.s66_moments.proofs.known.span_law.Goals as goal
 
 pub returns : goal.returns

@@ -1,5 +1,5 @@
 use Rattle.std.proofs.Common.{arith}
-use Rattle.s66_moments.specs.Paths.{IsStep}
+use Rattle.s66_moments.specs.{IsStep}
 use Rattle.s66_moments.proofs.Steps.{table-along, table-back}
 use Rattle.s66_moments.proofs.paths.table_law.Goals as goal
 

@@ -1,9 +1,6 @@
 use Rattle.std.proofs.Common.{ℕ, ◌≡◌, true, List, [], None}
-use Rattle.s66_model.specs.Timing.{Problem}
-use Rattle.s66_moments.specs.declared.fact_line.FactStep.{FactStep}
-use Rattle.s66_moments.specs.Facts.{Fact}
-use Rattle.s66_moments.specs.FactLines.{facts_after}
-use Rattle.s66_moments.specs.Suppositions.{Standing, standing_first, standing_after, are_steps_taken, shown_by_all}
+use Rattle.s66_model.specs.{Problem}
+use Rattle.s66_moments.specs.{FactStep, Fact, facts_after, Standing, standing_first, standing_after, are_steps_taken, shown_by_all}
 use Rattle.s66_moments.proofs.KnownLines.{IsSound, arcs-steps, arcs-own, arcs-rise, next-too_late, turned-too_late, span-tail}
 use Rattle.s66_moments.proofs.LoadLeaves.{loaded-closed}
 use Rattle.s66_moments.proofs.Turns.{turn-comes}
