@@ -1,20 +1,14 @@
 -- Chains of arcs of loads: they end, one arc more leaves them as they are, and each number's chain gives what all arcs give.
-use Rattle.std.proofs.Common.{ℕ, zero, suc, ◌+◌, ◌-◌, ◌≤◌, ◌<◌, ◌≡◌, ◌≢◌, Bool, true, false, List, [], ◌∷◌, ◌++◌, length, get_or, set, replicate, refl, sym, ap, arith, inl, inr, leb, ◌∙◌, subst, Option, Some, None}
-use Rattle.std.proofs.lemmas.Bool.{cases_Bool, cases_eq, leb-true}
-use Rattle.std.proofs.lemmas.List.{length-append, get_or_append_left, get_or_push, get_or-set_same, get_or-set_other, get_or-replicate, length-set, length-replicate}
+use Rattle.std.proofs.Common.{ℕ, zero, suc, ◌+◌, ◌-◌, ◌≤◌, ◌<◌, ◌≡◌, ◌≢◌, Bool, true, false, List, [], ◌∷◌, ◌++◌, length, get_or, set, replicate, refl, sym, ap, arith, inl, inr, leb, ◌∙◌, subst}
+use Rattle.std.proofs.Common.{Option, Some, None, leb-true, length-append, get_or-set_same, get_or-set_other, length-set}
+use Rattle.std.proofs.lemmas.Bool.{cases_Bool, cases_eq}
+use Rattle.std.proofs.lemmas.List.{get_or_append_left, get_or_push, get_or-replicate, length-replicate}
 use Rattle.s66_isa.proofs.Lists.{cases_le}
-use Rattle.s66_moments.specs.declared.moment.Moment.{Moment}
-use Rattle.s66_moments.specs.declared.fact_line.KnownArc.{KnownArc}
-use Rattle.s66_moments.specs.Networks.{same_moment}
-use Rattle.s66_moments.specs.KnownFacts.{later, latest}
+use Rattle.s66_moments.specs.{Moment, KnownArc, same_moment, later, latest}
 use Rattle.s66_moments.proofs.TableArcs.{and_three}
 use Rattle.s66_moments.proofs.MoreArcs.{same_moment-true}
 use Rattle.s66_moments.proofs.Spans.{height-same, height-later}
-use Rattle.s66_facts.specs.declared.direction.Direction.{Direction}
-use Rattle.s66_facts.specs.declared.direction.Direction.TheVariants.{Forward, Backward}
-use Rattle.s66_facts.specs.Directions.{arc_start, arc_end}
-use Rattle.s66_facts.specs.Passes.{add, when, by_arc}
-use Rattle.s66_facts.specs.Chained.{number_of, no_arc, along, is_as_long, HasAsLong, IsFalling, IsPushed, IsChained}
+use Rattle.s66_facts.specs.{Direction, Forward, Backward, arc_start, arc_end, add, when, by_arc, number_of, no_arc, along, is_as_long, HasAsLong, IsFalling, IsPushed, IsChained}
 use Rattle.s66_facts.proofs.Latest.{later-none, later-assoc}
 
 later-comm : (o p : Option ℕ) → later o p ≡ later p o

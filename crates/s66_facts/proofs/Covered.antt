@@ -1,26 +1,14 @@
 -- What a number between two others hands on: the test `covers` of `src/near.rt`, and that numbers which are covered decide no times.
-use Rattle.std.proofs.Common.{ℕ, ◌-◌, ◌≤◌, ◌≡◌, ◌⊎◌, not, ◌||◌, ◌&&◌, ◌==◌, Bool, true, false, true≢false, List, [], ◌∷◌, length, get_or, leb, refl, sym, arith, inl, inr, ◌∙◌, subst, Some}
-use Rattle.std.proofs.lemmas.Bool.{and_parts, and_from, or_cases, not-true, leb-true}
-use Rattle.s66_isa.specs.declared.reg.Reg.{Reg}
-use Rattle.s66_isa.specs.Lists.{every, some_of}
-use Rattle.s66_isa.specs.Table.{Row, Write, same_reg, same_kind, memory_pair}
+use Rattle.std.proofs.Common.{ℕ, ◌-◌, ◌≤◌, ◌≡◌, ◌⊎◌, not, ◌||◌, ◌&&◌, ◌==◌, Bool, true, false, true≢false, List, [], ◌∷◌, length, get_or, leb, refl, sym, arith, inl, inr, ◌∙◌, subst, Some, leb-true}
+use Rattle.std.proofs.lemmas.Bool.{and_parts, and_from, or_cases, not-true}
+use Rattle.s66_isa.specs.{Reg, every, some_of, Row, Write, same_reg, same_kind, memory_pair, Set, has, numbers_in, no_set}
 use Rattle.s66_isa.proofs.SameRegister.{same_reg-true}
-use Rattle.s66_model.specs.Timing.{Problem, row_at, copies}
+use Rattle.s66_model.specs.{Problem, row_at, copies}
 use Rattle.s66_model.proofs.LoadBound.{same_kind-true}
-use Rattle.s66_moments.specs.Moments.{writes, only_if}
-use Rattle.s66_moments.specs.Facts.{IsNumber}
-use Rattle.s66_moments.proofs.TableArcs.{and_four}
-use Rattle.s66_facts.specs.declared.direction.Direction.{Direction}
-use Rattle.s66_facts.specs.declared.direction.Direction.TheVariants.{Forward, Backward}
-use Rattle.s66_isa.specs.declared.set.Set.{Set}
-use Rattle.s66_isa.specs.Lists.{has}
-use Rattle.s66_isa.specs.Members.{numbers_in, no_set}
-use Rattle.s66_facts.specs.Marked.{is_in, before_in}
-use Rattle.s66_facts.specs.BlockGround.{Ground, IsAcyclic}
-use Rattle.s66_facts.specs.Directions.{sooner}
-use Rattle.s66_facts.specs.Near.{uses, hands_on, covers, IsNear}
-use Rattle.s66_facts.specs.Passes.{share_unit}
 use Rattle.s66_model.proofs.Exchange.{memory_pair-sym}
+use Rattle.s66_moments.specs.{writes, only_if, IsNumber}
+use Rattle.s66_moments.proofs.TableArcs.{and_four}
+use Rattle.s66_facts.specs.{Direction, Forward, Backward, is_in, before_in, Ground, IsAcyclic, sooner, uses, hands_on, covers, IsNear, share_unit}
 
 -- some of what stands before n, by which the others are covered
 pub record IsNearBy (b : Problem) (before : ℕ → ℕ → Bool) (near : ℕ → Bool) (n : ℕ) : Type 0 where

@@ -1,11 +1,9 @@
 -- Marks of each number of a block, made number after number, as `none_each`, `turned` and `near_each` make them.
-use Rattle.std.proofs.Common.{ℕ, ◌+◌, ◌-◌, ◌≤◌, ◌≡◌, Bool, true, false, List, [], ◌∷◌, ◌++◌, length, get_or, refl, sym, ap, arith, inl, inr, ◌∙◌, subst}
-use Rattle.std.proofs.lemmas.Bool.{le-leb, cases_lt}
-use Rattle.std.proofs.lemmas.List.{length-append, get_or_append_left, get_or_push}
-use Rattle.s66_isa.specs.declared.set.Set.{Set}
-use Rattle.s66_isa.specs.Lists.{has}
-use Rattle.s66_isa.specs.Members.{numbers_in, no_set}
-use Rattle.s66_facts.specs.Marked.{before_in}
+use Rattle.std.proofs.Common.{ℕ, ◌+◌, ◌-◌, ◌≤◌, ◌≡◌, Bool, true, false, List, [], ◌∷◌, ◌++◌, length, get_or, refl, sym, ap, arith, inl, inr, ◌∙◌, subst, le-leb, length-append}
+use Rattle.std.proofs.lemmas.Bool.{cases_lt}
+use Rattle.std.proofs.lemmas.List.{get_or_append_left, get_or_push}
+use Rattle.s66_isa.specs.{Set, has, numbers_in, no_set}
+use Rattle.s66_facts.specs.{before_in}
 
 pub each-push : (P : ℕ → Set → Type 0) (all whole : List Set) (own : Set) (position : ℕ) → length all ≡ position → ((n : ℕ) → 1 ≤ n → n ≤ position → P n (get_or all (n - 1) no_set)) → P (position + 1) own → whole ≡ all ++ own ∷ []
     → (length whole ≡ position + 1) × ((n : ℕ) → 1 ≤ n → n ≤ position + 1 → P n (get_or whole (n - 1) no_set))

@@ -1,35 +1,20 @@
 -- The arcs of what is known, and the longest paths in a direction by their last arcs.
-use Rattle.std.proofs.Common.{ℕ, ◌+◌, ◌-◌, ◌*◌, ◌^◌, ◌≤◌, ◌<◌, ◌≡◌, ◌⊎◌, Bool, true, false, true≢false, cond, not, List, [], ◌∷◌, ◌++◌, length, refl, sym, ap, arith, inl, inr, eqb, ◌∙◌, subst, Option, Some, None}
-use Rattle.std.proofs.lemmas.Bool.{and_from, or_cases, or_left, or_right, cond-true, cond-false, cases_Bool, eqb-true, eq-eqb, ne_eqb, le-leb}
-use Rattle.s66_isa.specs.declared.reg.Reg.{Reg}
-use Rattle.s66_isa.specs.Lists.{Among}
-use Rattle.s66_isa.specs.Table.{Row, Write, same_reg, has_reg, memory_pair, instr_at}
+use Rattle.std.proofs.Common.{ℕ, ◌+◌, ◌-◌, ◌*◌, ◌^◌, ◌≤◌, ◌<◌, ◌≡◌, ◌⊎◌, Bool, true, false, true≢false, cond, not, List, [], ◌∷◌, ◌++◌, length, refl, sym, ap, arith, inl, inr, eqb, ◌∙◌, subst, Option}
+use Rattle.std.proofs.Common.{Some, None, eqb-true, eq-eqb, ne_eqb, le-leb}
+use Rattle.std.proofs.lemmas.Bool.{and_from, or_cases, or_left, or_right, cond-true, cond-false, cases_Bool}
+use Rattle.s66_isa.specs.{Reg, Among, Row, Write, same_reg, has_reg, memory_pair, instr_at}
 use Rattle.s66_isa.proofs.Lists.{greatest-le}
 use Rattle.s66_isa.proofs.GoodRows.{row-good}
-use Rattle.s66_model.specs.Timing.{Problem, row_at}
-use Rattle.s66_model.specs.LegalOrder.{is_remaining}
-use Rattle.s66_moments.specs.declared.moment.Stage.{Stage}
-use Rattle.s66_moments.specs.declared.moment.Stage.TheVariants.{Issue, Start, Done, Free}
-use Rattle.s66_moments.specs.declared.moment.Moment.{Moment}
-use Rattle.s66_moments.specs.declared.moment.Moment.TheVariants.{Origin, At, End}
-use Rattle.s66_moments.specs.declared.fact_line.KnownArc.{KnownArc}
-use Rattle.s66_moments.specs.Moments.{writes, fetches, has_stage, is_moment, only_if, own_arc, later_arc, arc, latency_to}
-use Rattle.s66_moments.specs.Paths.{Hop, waits}
-use Rattle.s66_moments.specs.Facts.{IsNumber}
-use Rattle.s66_moments.specs.Networks.{Network, network, is_in_order, IsRising, IsNetworkPath, targets, same_moment, rank_by, place_by}
-use Rattle.s66_moments.specs.KnownFacts.{later, latest, plus, span, with_loads}
+use Rattle.s66_model.specs.{Problem, row_at, is_remaining}
+use Rattle.s66_moments.specs.{Stage, Issue, Start, Done, Free, Moment, Origin, At, End, KnownArc, writes, fetches, has_stage, is_moment, only_if, own_arc, later_arc, arc, latency_to, Hop, waits}
+use Rattle.s66_moments.specs.{IsNumber, Network, network, is_in_order, IsRising, IsNetworkPath, targets, same_moment, rank_by, place_by, later, latest, plus, span, with_loads}
 use Rattle.s66_moments.proofs.TableArcs.{Some-same, None-none, only_if-parts}
 use Rattle.s66_moments.proofs.Tails.{network-parts, path-short, all-among, arc-some}
 use Rattle.s66_moments.proofs.MoreArcs.{same_moment-true, with-some, with-there, with-longer}
 use Rattle.s66_moments.proofs.NextLeaves.{path-join, waits-join}
 use Rattle.s66_moments.proofs.KnownLines.{loads-rise}
 use Rattle.s66_moments.proofs.Spans.{height, height-later, height-latest, later-some, latest-some, plus-some, span-path, span-high, span-from_front, span-from_back}
-use Rattle.s66_facts.specs.declared.direction.Direction.{Direction}
-use Rattle.s66_facts.specs.declared.direction.Direction.TheVariants.{Forward, Backward}
-use Rattle.s66_facts.specs.Marked.{before_in}
-use Rattle.s66_facts.specs.BlockGround.{Ground, ground_arcs, IsAcyclic}
-use Rattle.s66_facts.specs.Directions.{source, sooner, arc_start, arc_end, arcs_along, span_along}
-use Rattle.s66_facts.specs.Passes.{add, when, share_unit}
+use Rattle.s66_facts.specs.{Direction, Forward, Backward, before_in, Ground, ground_arcs, IsAcyclic, source, sooner, arc_start, arc_end, arcs_along, span_along, add, when, share_unit}
 
 -- BELOW A HEIGHT
 

@@ -1,25 +1,15 @@
 -- What is known before the first line: dependence alone, and no number outside of the block.
-use Rattle.std.proofs.Common.{ℕ, zero, suc, ◌-◌, ◌≤◌, ◌≡◌, ◌||◌, ◌&&◌, Bool, false, true≢false, List, [], ◌∷◌, length, get_or, refl, sym, ap, arith, inl, inr, leb, ltb, ◌∙◌, subst}
+use Rattle.std.proofs.Common.{ℕ, zero, suc, ◌-◌, ◌≤◌, ◌≡◌, ◌||◌, ◌&&◌, Bool, false, true≢false, List, [], ◌∷◌, length, get_or, refl, sym, ap, arith, inl, inr, leb, ltb, ◌∙◌, subst, le-leb, leb-true}
 use Rattle.std.proofs.Math.Path.{fun_ext}
-use Rattle.std.proofs.lemmas.Bool.{and_parts, and_from, and_left, and_right, or_from, cases_Bool, le-leb, leb-true, cases_lt}
-use Rattle.s66_isa.specs.declared.instr.Instr.{Instr}
+use Rattle.std.proofs.lemmas.Bool.{and_parts, and_from, and_left, and_right, or_from, cases_Bool, cases_lt}
+use Rattle.s66_isa.specs.{Instr, Reg, BLOCK_LIMIT, some_of, instr_at, idle_instr, has_reg, reads_of, results_of, memory_of, memory_pair, numbers, Set, has, numbers_in, no_set}
 use Rattle.s66_isa.specs.declared.instr.Memory.TheVariants as memory
-use Rattle.s66_isa.specs.declared.reg.Reg.{Reg}
-use Rattle.s66_isa.specs.declared.limits.TheConstants.{BLOCK_LIMIT}
-use Rattle.s66_isa.specs.Lists.{some_of}
-use Rattle.s66_isa.specs.Table.{instr_at, idle_instr, has_reg, reads_of, results_of, memory_of, memory_pair, numbers}
-use Rattle.s66_model.specs.Timing.{Problem}
-use Rattle.s66_model.specs.Dependence.{conflict, depends, share}
-use Rattle.s66_moments.specs.Networks.{precedes, precedes_over, IsTransitive, HasNoRing}
-use Rattle.s66_moments.specs.KnownFacts.{Known, known_first}
-use Rattle.s66_moments.proofs.Preceders.{precedes-transitive, precedes-no_ring}
-use Rattle.s66_isa.specs.declared.set.Set.{Set}
-use Rattle.s66_isa.specs.Lists.{has}
-use Rattle.s66_isa.specs.Members.{numbers_in, no_set}
-use Rattle.s66_facts.specs.Marked.{is_in, before_in, IsClosedUpTo}
-use Rattle.s66_facts.specs.BlockGround.{known_of, IsAcyclic}
-use Rattle.s66_model.proofs.PushedBoth.{pair-none}
 use Rattle.s66_isa.proofs.Lists.{get_or-past}
+use Rattle.s66_model.specs.{Problem, conflict, depends, share}
+use Rattle.s66_model.proofs.PushedBoth.{pair-none}
+use Rattle.s66_moments.specs.{precedes, precedes_over, IsTransitive, HasNoRing, Known, known_first}
+use Rattle.s66_moments.proofs.Preceders.{precedes-transitive, precedes-no_ring}
+use Rattle.s66_facts.specs.{is_in, before_in, IsClosedUpTo, known_of, IsAcyclic}
 
 -- OUTSIDE OF THE BLOCK nothing depends on anything
 

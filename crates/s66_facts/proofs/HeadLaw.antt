@@ -1,25 +1,14 @@
 -- Longest paths from a moment on: those to the moments of a number, by those of all that stands before it.
 use Rattle.std.proofs.Common.{ℕ, ◌+◌, ◌≤◌, ◌≡◌, not, Bool, true, List, refl, sym, ap, arith, inl, inr, ◌∙◌, Option, Some, None}
 use Rattle.std.proofs.lemmas.Bool.{or_left, or_right}
-use Rattle.s66_isa.specs.declared.reg.Reg.{Reg}
-use Rattle.s66_isa.specs.Table.{Write, has_reg, memory_pair, numbers}
-use Rattle.s66_model.specs.Timing.{Problem, row_at}
-use Rattle.s66_moments.specs.declared.moment.Stage.{Stage}
-use Rattle.s66_moments.specs.declared.moment.Stage.TheVariants.{Issue, Start, Done, Free}
-use Rattle.s66_moments.specs.declared.moment.Moment.{Moment}
-use Rattle.s66_moments.specs.declared.moment.Moment.TheVariants.{Origin, At}
-use Rattle.s66_moments.specs.Moments.{writes, fetches, has_stage, is_moment, only_if, latency_to, later_arc, arc}
-use Rattle.s66_moments.specs.Facts.{IsNumber}
-use Rattle.s66_moments.specs.Networks.{Network, same_moment}
-use Rattle.s66_moments.specs.KnownFacts.{later, latest, span, is_front}
+use Rattle.s66_isa.specs.{Reg, Write, has_reg, memory_pair, numbers}
+use Rattle.s66_model.specs.{Problem, row_at}
+use Rattle.s66_moments.specs.{Stage, Issue, Start, Done, Free, Moment, Origin, At, writes, fetches, has_stage, is_moment, only_if, latency_to, later_arc, arc, IsNumber, Network, same_moment, later}
+use Rattle.s66_moments.specs.{latest, span, is_front}
 use Rattle.s66_moments.proofs.TableArcs.{None-none, moment-parts, moment-number}
 use Rattle.s66_moments.proofs.Spans.{height-some, some-height}
-use Rattle.s66_facts.specs.declared.direction.Direction.TheVariants.{Forward}
-use Rattle.s66_facts.specs.declared.times.Times.{Times}
-use Rattle.s66_facts.specs.Marked.{before_in}
-use Rattle.s66_facts.specs.BlockGround.{Ground, ground_arcs, IsAcyclic}
-use Rattle.s66_facts.specs.Near.{uses, covers}
-use Rattle.s66_facts.specs.Passes.{no_times, add, when, times_at, latest_done, share_unit, issue_after, start_after, done_after, after_one, by_loads, by_all, at_once, head_issue, head_start, head_done, head_results, head_free, with_free, times_of, AreResults, AreTimes}
+use Rattle.s66_facts.specs.{Forward, Times, before_in, Ground, ground_arcs, IsAcyclic, uses, covers, no_times, add, when, times_at, latest_done, share_unit, issue_after, start_after, done_after}
+use Rattle.s66_facts.specs.{after_one, by_loads, by_all, at_once, head_issue, head_start, head_done, head_results, head_free, with_free, times_of, AreResults, AreTimes}
 use Rattle.s66_facts.proofs.Latest.{later-assoc}
 use Rattle.s66_facts.proofs.Edges.{HasArc, later-cases, is-stage, step, later_along, own-edge, later-edge}
 use Rattle.s66_facts.proofs.Walks.{Walk, IsHop, by-parts, by-others, results-go}

@@ -1,20 +1,13 @@
 -- The latest of some times, taken in one after the other, as paths to a moment are gathered arc by arc.
 use Rattle.std.proofs.Common.{ℕ, zero, suc, ◌-◌, ◌≤◌, ◌<◌, ◌≡◌, not, ◌&&◌, ◌==◌, Bool, true, false, cond, List, [], ◌∷◌, length, map, get_or, refl, sym, ap, arith, inl, inr, ◌∙◌, Option, Some, None}
-use Rattle.std.proofs.lemmas.Bool.{cases_eq, eq-eqb, ne_eqb}
-use Rattle.s66_isa.specs.Lists.{Among}
+use Rattle.std.proofs.Common.{eq-eqb, ne_eqb}
+use Rattle.std.proofs.lemmas.Bool.{cases_eq}
+use Rattle.s66_isa.specs.{Among, Instr, Profile, Row, row, numbers, instr_at, idle_instr, Set, has, numbers_in}
 use Rattle.s66_isa.proofs.Lists.{rising-among}
-use Rattle.s66_model.specs.Timing.{Problem}
-use Rattle.s66_moments.specs.Facts.{IsNumber}
-use Rattle.s66_isa.specs.declared.instr.Instr.{Instr}
-use Rattle.s66_isa.specs.declared.profile.Profile.{Profile}
-use Rattle.s66_isa.specs.Table.{Row, row, numbers, instr_at, idle_instr}
-use Rattle.s66_moments.specs.KnownFacts.{later}
+use Rattle.s66_model.specs.{Problem}
+use Rattle.s66_moments.specs.{IsNumber, later}
 use Rattle.s66_moments.proofs.Spans.{height-same, height-later}
-use Rattle.s66_isa.specs.declared.set.Set.{Set}
-use Rattle.s66_facts.specs.declared.times.Times.{Times}
-use Rattle.s66_isa.specs.Lists.{has}
-use Rattle.s66_isa.specs.Members.{numbers_in}
-use Rattle.s66_facts.specs.Passes.{no_times, later_times, gathered}
+use Rattle.s66_facts.specs.{Times, no_times, later_times, gathered}
 
 pub later-assoc : (o p q : Option ℕ) → later (later o p) q ≡ later o (later p q)
 later-assoc o p q =

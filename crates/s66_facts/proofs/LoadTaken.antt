@@ -1,20 +1,13 @@
 -- Load lines: what their tests say, and that an arc more leaves no ring.
 use Rattle.std.proofs.Common.{ℕ, zero, suc, ◌+◌, ◌-◌, ◌^◌, ◌≤◌, ◌<◌, ◌≡◌, ◌&&◌, false, true, true≢false, List, [], ◌∷◌, ◌++◌, length, get_or, drop, refl, sym, ap, arith, inl, inr, leb, ◌∙◌, subst}
-use Rattle.std.proofs.lemmas.Bool.{and_parts, and_cases, and_left, and_right, leb-true}
+use Rattle.std.proofs.Common.{leb-true}
+use Rattle.std.proofs.lemmas.Bool.{and_parts, and_cases, and_left, and_right}
 use Rattle.std.proofs.lemmas.List.{at_drop_more}
-use Rattle.s66_isa.specs.declared.instr.Kind.{Kind}
-use Rattle.s66_isa.specs.Lists.{every, Among}
-use Rattle.s66_model.specs.Timing.{Problem}
-use Rattle.s66_moments.specs.declared.fact_line.LoadLine.{LoadLine}
-use Rattle.s66_moments.specs.declared.fact_line.KnownArc.{KnownArc}
-use Rattle.s66_moments.specs.Facts.{IsNumber}
-use Rattle.s66_moments.specs.Networks.{Network}
-use Rattle.s66_moments.specs.KnownFacts.{is_number, are_rising, is_used, is_arc_up}
-use Rattle.s66_isa.specs.Lists.{has}
-use Rattle.s66_isa.specs.Members.{numbers_in, no_set}
-use Rattle.s66_facts.specs.Marked.{is_in, before_in}
-use Rattle.s66_facts.specs.BlockGround.{Ground, IsAcyclic}
+use Rattle.s66_isa.specs.{Kind, every, Among, has, numbers_in, no_set}
 use Rattle.s66_isa.proofs.Lists.{split-among}
+use Rattle.s66_model.specs.{Problem}
+use Rattle.s66_moments.specs.{LoadLine, KnownArc, IsNumber, Network, is_number, are_rising, is_used, is_arc_up}
+use Rattle.s66_facts.specs.{is_in, before_in, Ground, IsAcyclic}
 
 -- nothing stands before what isn't of the block
 pub outside : (g : Ground) (m n : ℕ) → length g.marks ≡ length g.problem.block → (is_number g.problem m && is_number g.problem n) ≡ false → before_in g.marks m n ≡ false

@@ -1,17 +1,13 @@
 -- Those that decide the times of each number, once more stand on one side of it.
-use Rattle.std.proofs.Common.{ℕ, ◌+◌, ◌-◌, ◌≤◌, ◌<◌, ◌≡◌, ◌⊎◌, not, ◌||◌, ◌&&◌, ◌==◌, true, false, true≢false, Bool, List, length, get_or, refl, sym, ap, arith, inl, inr, leb, ◌∙◌, subst}
-use Rattle.std.proofs.lemmas.Bool.{and_parts, and_from, and_left, and_right, or_cases, or_left, or_right, cases_Bool, cases_eq, eq-eqb, eqb-true, leb-true}
+use Rattle.std.proofs.Common.{ℕ, ◌+◌, ◌-◌, ◌≤◌, ◌<◌, ◌≡◌, ◌⊎◌, not, ◌||◌, ◌&&◌, ◌==◌, true, false, true≢false, Bool, List, length, get_or, refl, sym, ap, arith, inl, inr, leb, ◌∙◌, subst, eq-eqb}
+use Rattle.std.proofs.Common.{eqb-true, leb-true}
+use Rattle.std.proofs.lemmas.Bool.{and_parts, and_from, and_left, and_right, or_cases, or_left, or_right, cases_Bool, cases_eq}
 use Rattle.std.proofs.Math.Bool.{and_comm}
-use Rattle.s66_isa.specs.declared.limits.TheConstants.{BLOCK_LIMIT}
-use Rattle.s66_model.specs.Timing.{Problem}
-use Rattle.s66_moments.specs.Facts.{IsNumber}
-use Rattle.s66_moments.specs.Networks.{HasNoRing, with_pair}
-use Rattle.s66_isa.specs.declared.set.Set.{Set}
-use Rattle.s66_isa.specs.Lists.{has}
-use Rattle.s66_isa.specs.Members.{numbers_in, no_set}
-use Rattle.s66_facts.specs.Marked.{is_in, before_in}
-use Rattle.s66_facts.specs.Near.{IsCovered, IsNear, AreNear}
+use Rattle.s66_isa.specs.{BLOCK_LIMIT, Set, has, numbers_in, no_set}
 use Rattle.s66_isa.proofs.Sets.{numbers_in-range}
+use Rattle.s66_model.specs.{Problem}
+use Rattle.s66_moments.specs.{IsNumber, HasNoRing, with_pair}
+use Rattle.s66_facts.specs.{is_in, before_in, IsCovered, IsNear, AreNear}
 use Rattle.s66_facts.proofs.Covered.{before-range}
 use Rattle.s66_facts.proofs.Each.{same-bool, within-marked}
 

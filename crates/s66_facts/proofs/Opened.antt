@@ -1,16 +1,9 @@
 -- What was known before what is supposed, as steps are taken.
 use Rattle.std.proofs.Common.{ℕ, ◌+◌, ◌≤◌, ◌≡◌, Bool, true, false, if◌then◌else◌, List, [], ◌∷◌, ◌++◌, length, sym, ap, arith, subst, ◌∙◌, Option, Some, None}
-use Rattle.s66_model.specs.Timing.{Problem}
-use Rattle.s66_moments.specs.declared.fact_line.FactLine.TheVariants.{Pair, Load}
-use Rattle.s66_moments.specs.declared.fact_line.LoadLine.{LoadLine}
-use Rattle.s66_moments.specs.declared.fact_line.KnownArc.{KnownArc}
-use Rattle.s66_moments.specs.KnownFacts.{Known, with_line}
-use Rattle.s66_moments.specs.Suppositions.{may_be_supposed}
+use Rattle.s66_model.specs.{Problem}
+use Rattle.s66_moments.specs.{Pair, Load, LoadLine, KnownArc, Known, with_line, may_be_supposed}
 use Rattle.s66_moments.proofs.SupposedLines.{MaySuppose, supposed-parts}
-use Rattle.s66_facts.specs.declared.supposing.OpenSupposition.{OpenSupposition}
-use Rattle.s66_facts.specs.Marked.{before_in}
-use Rattle.s66_facts.specs.BlockGround.{Ground, known_of}
-use Rattle.s66_facts.specs.Supposing.{IsSupposition, MayBeOpen}
+use Rattle.s66_facts.specs.{OpenSupposition, before_in, Ground, known_of, IsSupposition, MayBeOpen}
 
 -- HOW MANY LOADS are known
 

@@ -1,20 +1,12 @@
 -- A pair that is taken leaves no ring.
-use Rattle.std.proofs.Common.{ℕ, ◌≤◌, ◌≡◌, ◌≢◌, ◌||◌, ◌&&◌, ◌==◌, Bool, false, true, List, length, sym, ap, subst, arith, inl, inr, ◌∙◌}
+use Rattle.std.proofs.Common.{ℕ, ◌≤◌, ◌≡◌, ◌≢◌, ◌||◌, ◌&&◌, ◌==◌, Bool, false, true, List, length, sym, ap, subst, arith, inl, inr, ◌∙◌, eqb-true}
 use Rattle.std.proofs.Math.Path.{fun_ext}
-use Rattle.std.proofs.lemmas.Bool.{and_parts, or_cases, cases_Bool, eqb-true}
-use Rattle.s66_moments.specs.declared.fact_line.FactLine.TheVariants.{Pair}
-use Rattle.s66_moments.specs.KnownFacts.{with_line}
-use Rattle.s66_moments.specs.declared.fact_line.KnownArc.{KnownArc}
-use Rattle.s66_moments.specs.Facts.{IsNumber}
-use Rattle.s66_moments.specs.Networks.{IsTransitive, HasNoRing, with_pair}
-use Rattle.s66_moments.specs.KnownFacts.{is_arc_up}
+use Rattle.std.proofs.lemmas.Bool.{and_parts, or_cases, cases_Bool}
+use Rattle.s66_isa.specs.{Set, has, numbers_in}
+use Rattle.s66_moments.specs.{Pair, with_line, KnownArc, IsNumber, IsTransitive, HasNoRing, with_pair, is_arc_up}
 use Rattle.s66_moments.proofs.Rings.{pair-transitive, pair-no_ring}
 use Rattle.s66_moments.proofs.KnownLines.{up-pair}
-use Rattle.s66_isa.specs.declared.set.Set.{Set}
-use Rattle.s66_isa.specs.Lists.{has}
-use Rattle.s66_isa.specs.Members.{numbers_in}
-use Rattle.s66_facts.specs.Marked.{before_in}
-use Rattle.s66_facts.specs.BlockGround.{Ground, IsAcyclic, known_of}
+use Rattle.s66_facts.specs.{before_in, Ground, IsAcyclic, known_of}
 use Rattle.s66_facts.proofs.Covered.{before-range}
 use Rattle.s66_facts.proofs.Settled.{or-no, or-yes}
 use Rattle.s66_facts.proofs.NearEach.{at, apart-marked, pair-more, turned-pair, turned-ring}

@@ -1,12 +1,10 @@
 -- A pair more, in what is kept of which number stands before which.
-use Rattle.std.proofs.Common.{ℕ, ◌+◌, ◌-◌, ◌≤◌, ◌≡◌, ◌==◌, ◌||◌, ◌&&◌, true, false, true≢false, List, [], ◌∷◌, ◌++◌, length, get_or, sym, ap, arith, inl, inr, leb, ◌∙◌, subst}
+use Rattle.std.proofs.Common.{ℕ, ◌+◌, ◌-◌, ◌≤◌, ◌≡◌, ◌==◌, ◌||◌, ◌&&◌, true, false, true≢false, List, [], ◌∷◌, ◌++◌, length, get_or, sym, ap, arith, inl, inr, leb, ◌∙◌, subst, ne_eqb, leb-true}
 use Rattle.std.proofs.Math.Path.{fun_ext}
-use Rattle.std.proofs.lemmas.Bool.{and_parts, and_left, and_right, or_from, cases_Bool, ne_eqb, leb-true}
-use Rattle.s66_moments.specs.Networks.{with_pair}
-use Rattle.s66_isa.specs.declared.set.Set.{Set}
-use Rattle.s66_isa.specs.Lists.{has}
-use Rattle.s66_isa.specs.Members.{numbers_in, no_set}
-use Rattle.s66_facts.specs.Marked.{is_in, before_in}
+use Rattle.std.proofs.lemmas.Bool.{and_parts, and_left, and_right, or_from, cases_Bool}
+use Rattle.s66_isa.specs.{Set, has, numbers_in, no_set}
+use Rattle.s66_moments.specs.{with_pair}
+use Rattle.s66_facts.specs.{is_in, before_in}
 use Rattle.s66_facts.proofs.Each.{each-push}
 
 -- those of one number with the pair

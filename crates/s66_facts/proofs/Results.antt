@@ -2,22 +2,14 @@
 use Rattle.std.proofs.Common.{ℕ, ◌+◌, ◌≤◌, ◌<◌, ◌≡◌, Bool, true, false, true≢false, cond, List, [], ◌∷◌, length, refl, sym, ap, arith, inl, inr, ◌∙◌, subst, Option, Some, None}
 use Rattle.std.proofs.Math.Path.{fun_ext}
 use Rattle.std.proofs.lemmas.Bool.{or_cases, or_left, or_right}
-use Rattle.s66_isa.specs.declared.reg.Reg.{Reg}
-use Rattle.s66_isa.specs.Lists.{some_of, Among}
-use Rattle.s66_isa.specs.Table.{Row, Write, same_reg}
+use Rattle.s66_isa.specs.{Reg, some_of, Among, Row, Write, same_reg}
 use Rattle.s66_isa.proofs.SameRegister.{same_reg-true, same_reg-self}
 use Rattle.s66_isa.proofs.GoodRows.{row-good}
-use Rattle.s66_model.specs.Timing.{Problem, row_at}
-use Rattle.s66_moments.specs.declared.moment.Stage.{Stage}
-use Rattle.s66_moments.specs.declared.moment.Stage.TheVariants.{Issue, Start, Done, Free}
-use Rattle.s66_moments.specs.declared.moment.Moment.{Moment}
-use Rattle.s66_moments.specs.declared.moment.Moment.TheVariants.{At}
-use Rattle.s66_moments.specs.Moments.{has_stage, latency_to, only_if}
-use Rattle.s66_moments.specs.KnownFacts.{later, latest}
+use Rattle.s66_model.specs.{Problem, row_at}
+use Rattle.s66_moments.specs.{Stage, Issue, Start, Done, Free, Moment, At, has_stage, latency_to, only_if, later, latest}
 use Rattle.s66_moments.proofs.TableArcs.{Some-same, None-none}
 use Rattle.s66_moments.proofs.Spans.{height, height-same, later-left, later-right, latest-high}
-use Rattle.s66_facts.specs.declared.times.Times.{Times}
-use Rattle.s66_facts.specs.Passes.{add, when, no_times, later_times, latest_done, latest_result, gathered, AreResults, AreTimes}
+use Rattle.s66_facts.specs.{Times, add, when, no_times, later_times, latest_done, latest_result, gathered, AreResults, AreTimes}
 use Rattle.s66_facts.proofs.Edges.{later-low, latest-low, when-low, most_time, add-high, when-high}
 use Rattle.s66_facts.proofs.Latest.{later-none}
 

@@ -1,8 +1,8 @@
 -- The longest paths to or from an instruction's moments (`Times`) are the same if each of the five is.
-use Rattle.std.proofs.Common.{ℕ, ◌≡◌, ◌&&◌, Bool, true, true≢false, refl, sym, ap, eqb, ◌∙◌, Option, Some, None}
 use Rattle.std.specs.Option.{option_eq}
-use Rattle.std.proofs.lemmas.Bool.{and_parts, eqb-true, eq-eqb}
-use Rattle.s66_facts.specs.declared.times.Times.{Times}
+use Rattle.std.proofs.Common.{ℕ, ◌≡◌, ◌&&◌, Bool, true, true≢false, refl, sym, ap, eqb, ◌∙◌, Option, Some, None, eqb-true, eq-eqb}
+use Rattle.std.proofs.lemmas.Bool.{and_parts}
+use Rattle.s66_facts.specs.{Times}
 
 abbrev same : Option ℕ → Option ℕ → Bool
 same o p = option_eq eqb o p

@@ -1,31 +1,14 @@
 -- Times that are right if those of the others are: they stay so while another's times change or more is known, and all are right once all are so.
-use Rattle.std.proofs.Common.{ℕ, zero, suc, ◌-◌, ◌≤◌, ◌≡◌, ◌≢◌, ◌⊎◌, not, ◌||◌, ◌&&◌, ◌==◌, Bool, true, false, true≢false, List, [], ◌∷◌, ◌++◌, length, set, refl, sym, ap, arith, inl, inr, ◌∙◌, subst, Option, None}
-use Rattle.std.proofs.lemmas.Bool.{and_from, and_parts, and_left, and_right, or_cases, or_parts, or_left, or_right, not-true, cases_eq, cases_Bool, eqb-true}
+use Rattle.std.proofs.Common.{ℕ, zero, suc, ◌-◌, ◌≤◌, ◌≡◌, ◌≢◌, ◌⊎◌, not, ◌||◌, ◌&&◌, ◌==◌, Bool, true, false, true≢false, List, [], ◌∷◌, ◌++◌, length, set, refl, sym, ap, arith, inl, inr, ◌∙◌, subst}
+use Rattle.std.proofs.Common.{Option, None, eqb-true}
+use Rattle.std.proofs.lemmas.Bool.{and_from, and_parts, and_left, and_right, or_cases, or_parts, or_left, or_right, not-true, cases_eq, cases_Bool}
 use Rattle.std.proofs.Math.Bool.{and_comm}
 use Rattle.std.proofs.Math.Path.{fun_ext}
-use Rattle.s66_isa.specs.Table.{Write}
-use Rattle.s66_model.specs.Timing.{Problem, row_at}
-use Rattle.s66_moments.specs.declared.moment.Stage.{Stage}
-use Rattle.s66_moments.specs.declared.moment.Stage.TheVariants.{Issue, Start, Done}
-use Rattle.s66_moments.specs.declared.moment.Moment.{Moment}
-use Rattle.s66_moments.specs.declared.moment.Moment.TheVariants.{At}
-use Rattle.s66_moments.specs.declared.fact_line.KnownArc.{KnownArc}
-use Rattle.s66_moments.specs.declared.fact_line.FactLine.TheVariants.{Pair}
-use Rattle.s66_moments.specs.Moments.{only_if}
-use Rattle.s66_moments.specs.Facts.{IsNumber}
-use Rattle.s66_moments.specs.Networks.{IsTransitive, with_pair, same_moment}
-use Rattle.s66_moments.specs.KnownFacts.{Known, later, latest, with_line}
-use Rattle.s66_facts.specs.declared.direction.Direction.{Direction}
-use Rattle.s66_facts.specs.declared.direction.Direction.TheVariants.{Forward, Backward}
-use Rattle.s66_isa.specs.declared.set.Set.{Set}
-use Rattle.s66_facts.specs.declared.times.Times.{Times}
-use Rattle.s66_isa.specs.Lists.{has}
-use Rattle.s66_isa.specs.Members.{numbers_in}
-use Rattle.s66_facts.specs.Marked.{before_in}
-use Rattle.s66_facts.specs.BlockGround.{Ground, known_of, IsAcyclic}
-use Rattle.s66_facts.specs.Directions.{source, can_begin, sooner, rank, arc_start, arc_end, span_along}
-use Rattle.s66_facts.specs.Passes.{add, when, times_at, time_along, by_arc, by_loads, by_all, all_moments, times_of, AreResults, AreTimes}
-use Rattle.s66_facts.specs.Settled.{AreAll, IsStep, AreSettled, keeps}
+use Rattle.s66_isa.specs.{Write, Set, has, numbers_in}
+use Rattle.s66_model.specs.{Problem, row_at}
+use Rattle.s66_moments.specs.{Stage, Issue, Start, Done, Moment, At, KnownArc, Pair, only_if, IsNumber, IsTransitive, with_pair, same_moment, Known, later, latest, with_line}
+use Rattle.s66_facts.specs.{Direction, Forward, Backward, Times, before_in, Ground, known_of, IsAcyclic, source, can_begin, sooner, rank, arc_start, arc_end, span_along, add, when, times_at}
+use Rattle.s66_facts.specs.{time_along, by_arc, by_loads, by_all, all_moments, times_of, AreResults, AreTimes, AreAll, IsStep, AreSettled, keeps}
 use Rattle.s66_facts.proofs.Latest.{later-none}
 use Rattle.s66_facts.proofs.Covered.{IsNearBy, all-near, sooner-number}
 use Rattle.s66_facts.proofs.HeadLaw.{heads-are}

@@ -1,16 +1,12 @@
 -- What stands before a number by dependence, found from the first number on.
-use Rattle.std.proofs.Common.{ℕ, ◌+◌, ◌-◌, ◌≤◌, ◌<◌, ◌≡◌, ◌⊎◌, ◌==◌, ◌||◌, true, false, true≢false, List, length, get_or, refl, sym, ap, arith, inl, inr, ltb, ◌∙◌, subst}
-use Rattle.std.proofs.lemmas.Bool.{and_parts, or_cases, or_left, or_right, eqb-true, eq-eqb, ltb-true, cases_lt}
-use Rattle.s66_isa.specs.declared.instr.Instr.{Instr}
-use Rattle.s66_isa.specs.Table.{instr_at}
-use Rattle.s66_model.specs.Dependence.{conflict, depends}
-use Rattle.s66_moments.specs.Networks.{precedes}
+use Rattle.std.proofs.Common.{ℕ, ◌+◌, ◌-◌, ◌≤◌, ◌<◌, ◌≡◌, ◌⊎◌, ◌==◌, ◌||◌, true, false, true≢false, List, length, get_or, refl, sym, ap, arith, inl, inr, ltb, ◌∙◌, subst, eqb-true, eq-eqb, ltb-true}
+use Rattle.std.proofs.lemmas.Bool.{and_parts, or_cases, or_left, or_right, cases_lt}
+use Rattle.s66_isa.specs.{Instr, instr_at, Set, has, numbers_in, no_set}
+use Rattle.s66_model.specs.{conflict, depends}
+use Rattle.s66_moments.specs.{precedes}
 use Rattle.s66_moments.proofs.Preceders.{precedes-near, precedes-far, precedes-cases}
+use Rattle.s66_facts.specs.{IsClosedUpTo}
 use Rattle.s66_facts.proofs.Each.{same-bool}
-use Rattle.s66_isa.specs.declared.set.Set.{Set}
-use Rattle.s66_isa.specs.Lists.{has}
-use Rattle.s66_isa.specs.Members.{numbers_in, no_set}
-use Rattle.s66_facts.specs.Marked.{IsClosedUpTo}
 
 -- what the numbers up to one give
 pub record IsSoFar (block : List Instr) (n count : ℕ) (sooner : Set) : Type 0 where

@@ -1,18 +1,9 @@
 -- A list of times of which one is changed, and the order in which `settle_each` looks at numbers.
-use Rattle.std.proofs.Common.{ℕ, zero, suc, ◌+◌, ◌-◌, ◌≤◌, ◌<◌, ◌≡◌, ◌≢◌, ◌⊎◌, true, List, length, get_or, set, ap, arith, inl, inr, ◌∙◌}
-use Rattle.std.proofs.lemmas.List.{get_or-set_same, get_or-set_other}
+use Rattle.std.proofs.Common.{ℕ, zero, suc, ◌+◌, ◌-◌, ◌≤◌, ◌<◌, ◌≡◌, ◌≢◌, ◌⊎◌, true, List, length, get_or, set, ap, arith, inl, inr, ◌∙◌, get_or-set_same, get_or-set_other}
 use Rattle.s66_isa.proofs.Lists.{cases_le}
-use Rattle.s66_moments.specs.Facts.{IsNumber}
-use Rattle.s66_moments.specs.Networks.{place_by}
+use Rattle.s66_moments.specs.{IsNumber, place_by}
 use Rattle.s66_moments.proofs.Rings.{places}
-use Rattle.s66_facts.specs.declared.direction.Direction.{Direction}
-use Rattle.s66_facts.specs.declared.direction.Direction.TheVariants.{Forward, Backward}
-use Rattle.s66_facts.specs.declared.times.Times.{Times}
-use Rattle.s66_facts.specs.Marked.{before_in}
-use Rattle.s66_facts.specs.BlockGround.{Ground, IsAcyclic}
-use Rattle.s66_facts.specs.Directions.{sooner, rank}
-use Rattle.s66_facts.specs.Settled.{nth_number}
-use Rattle.s66_facts.specs.Passes.{no_times, times_at}
+use Rattle.s66_facts.specs.{Direction, Forward, Backward, Times, before_in, Ground, IsAcyclic, sooner, rank, nth_number, no_times, times_at}
 
 pub set-same : (times : List Times) (n : ℕ) (t : Times) → 1 ≤ n → n ≤ length times → times_at (set times (n - 1) t) n ≡ t
 set-same times zero t low high = absurd (omega (arith, low))

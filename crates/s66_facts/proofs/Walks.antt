@@ -1,31 +1,17 @@
 -- Longest paths in a direction to the moments of a number, by those of all that comes sooner: what is true of each of its stages.
 use Rattle.std.proofs.Common.{ℕ, ◌+◌, ◌≤◌, ◌<◌, ◌≡◌, ◌⊎◌, Bool, true, false, true≢false, List, [], ◌∷◌, refl, sym, ap, arith, inl, inr, ◌∙◌, subst, Option, Some, None}
-use Rattle.s66_isa.specs.Lists.{Among}
-use Rattle.s66_isa.specs.declared.reg.Reg.{Reg}
-use Rattle.s66_isa.specs.Table.{Write, numbers}
-use Rattle.s66_model.specs.Timing.{Problem, row_at}
-use Rattle.s66_moments.specs.declared.moment.Stage.{Stage}
-use Rattle.s66_moments.specs.declared.moment.Stage.TheVariants.{Issue, Start, Done, Free}
-use Rattle.s66_moments.specs.declared.moment.Moment.{Moment}
-use Rattle.s66_moments.specs.declared.moment.Moment.TheVariants.{Origin, At, End}
-use Rattle.s66_moments.specs.declared.fact_line.KnownArc.{KnownArc}
-use Rattle.s66_moments.specs.Moments.{has_stage, is_moment, only_if}
-use Rattle.s66_moments.specs.Facts.{IsNumber}
-use Rattle.s66_moments.specs.Networks.{same_moment}
-use Rattle.s66_moments.specs.KnownFacts.{later, latest, is_front, is_back, leads_up}
+use Rattle.s66_isa.specs.{Among, Reg, Write, numbers}
+use Rattle.s66_model.specs.{Problem, row_at}
+use Rattle.s66_moments.specs.{Stage, Issue, Start, Done, Free, Moment, Origin, At, End, KnownArc, has_stage, is_moment, only_if, IsNumber, same_moment, later, latest, is_front, is_back, leads_up}
 use Rattle.s66_moments.proofs.TableArcs.{moment-parts, moment-number}
 use Rattle.s66_moments.proofs.MoreArcs.{same_moment-true, same_moment-self}
 use Rattle.s66_moments.proofs.KnownLines.{up-parts}
 use Rattle.s66_moments.proofs.Rings.{number-among, among-number}
 use Rattle.s66_moments.proofs.Spans.{same-high, height, height-same, some-height, later-left, later-right, latest-high}
-use Rattle.s66_facts.specs.declared.direction.Direction.{Direction}
-use Rattle.s66_facts.specs.declared.direction.Direction.TheVariants.{Forward, Backward}
-use Rattle.s66_facts.specs.declared.times.Times.{Times}
-use Rattle.s66_facts.specs.Marked.{before_in}
-use Rattle.s66_facts.specs.BlockGround.{Ground, ground_arcs, IsAcyclic}
-use Rattle.s66_facts.specs.Directions.{source, can_begin, sooner, arc_start, arc_end, arcs_along, span_along}
-use Rattle.s66_facts.specs.Passes.{add, when, times_at, first_of, second_of, time_along, by_arc, by_loads, AreResults, AreTimes}
-use Rattle.s66_facts.proofs.Edges.{later-low, latest-low, when-low, only_if-low, most_time, add-high, when-high, between, HasArc, own_along, later_along, is_reached, span-fits, none-high, last-arc, step, step-low, to-source, load-arc, own-edge, later-edge, source-edge, leads}
+use Rattle.s66_facts.specs.{Direction, Forward, Backward, Times, before_in, Ground, ground_arcs, IsAcyclic, source, can_begin, sooner, arc_start, arc_end, arcs_along, span_along, add, when, times_at}
+use Rattle.s66_facts.specs.{first_of, second_of, time_along, by_arc, by_loads, AreResults, AreTimes}
+use Rattle.s66_facts.proofs.Edges.{later-low, latest-low, when-low, only_if-low, most_time, add-high, when-high, between, HasArc, own_along, later_along, is_reached, span-fits, none-high, last-arc}
+use Rattle.s66_facts.proofs.Edges.{step, step-low, to-source, load-arc, own-edge, later-edge, source-edge, leads}
 use Rattle.s66_facts.proofs.Covered.{IsNearBy}
 use Rattle.s66_facts.proofs.Results.{is_in, in-first, in-second, by_stages, IsRight, all-right, stages-high, stages-low, all-high, all-low, alone}
 

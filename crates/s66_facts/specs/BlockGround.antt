@@ -1,12 +1,8 @@
 -- Used by contracts: a block under a profile, and what is known of it.
 use Rattle.std.specs.Prelude.{◌-◌, ◌^◌, ◌≡◌, ◌≤◌, true, List, length}
-use Rattle.s66_isa.specs.declared.limits.TheConstants.{BLOCK_LIMIT}
-use Rattle.s66_isa.specs.Lists.{Among}
-use Rattle.s66_model.specs.Timing.{Problem}
-use Rattle.s66_moments.specs.declared.fact_line.KnownArc.{KnownArc}
-use Rattle.s66_moments.specs.Networks.{Network, IsTransitive, HasNoRing}
-use Rattle.s66_moments.specs.KnownFacts.{Known, is_arc_up, arcs_of}
-use Rattle.s66_isa.specs.declared.set.Set.{Set}
+use Rattle.s66_isa.specs.{BLOCK_LIMIT, Among, Set}
+use Rattle.s66_model.specs.{Problem}
+use Rattle.s66_moments.specs.{KnownArc, Network, IsTransitive, HasNoRing, Known, is_arc_up, arcs_of}
 use Rattle.s66_facts.specs.Marked.{before_in}
 
 -- of each number those that are known to stand before it, and the arcs of loads

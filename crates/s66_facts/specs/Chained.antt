@@ -1,10 +1,6 @@
 -- Used by contracts within the crate alone: arcs of loads, found by the number of one of their moments: each number has a chain of places, the last one first.
 use Rattle.std.specs.Prelude.{ℕ, zero, suc, ◌-◌, ◌≡◌, ◌≤◌, ◌<◌, ◌+◌, ◌⊎◌, ◌&&◌, Bool, true, List, [], ◌∷◌, ◌++◌, length, get_or, set, nat_le, Option, None}
-use Rattle.s66_moments.specs.declared.moment.Moment.{Moment}
-use Rattle.s66_moments.specs.declared.moment.Moment.TheVariants.{Origin, At, End}
-use Rattle.s66_moments.specs.declared.fact_line.KnownArc.{KnownArc}
-use Rattle.s66_moments.specs.Networks.{same_moment}
-use Rattle.s66_moments.specs.KnownFacts.{later, latest}
+use Rattle.s66_moments.specs.{Moment, Origin, At, End, KnownArc, same_moment, later, latest}
 use Rattle.s66_facts.specs.declared.direction.Direction.{Direction}
 use Rattle.s66_facts.specs.Passes.{by_arc}
 

@@ -1,10 +1,6 @@
 -- Used by contracts within the crate alone: the two directions in which the longest paths are followed, from a moment on or back from one.
 use Rattle.std.specs.Prelude.{ℕ, ◌+◌, ◌-◌, Bool, Option, length}
-use Rattle.s66_moments.specs.declared.moment.Moment.{Moment}
-use Rattle.s66_moments.specs.declared.moment.Moment.TheVariants.{Origin, End}
-use Rattle.s66_moments.specs.declared.fact_line.KnownArc.{KnownArc}
-use Rattle.s66_moments.specs.Networks.{Network, place_by}
-use Rattle.s66_moments.specs.KnownFacts.{span, is_front, is_back}
+use Rattle.s66_moments.specs.{Moment, Origin, End, KnownArc, Network, place_by, span, is_front, is_back}
 use Rattle.s66_facts.specs.declared.direction.Direction.{Direction}
 use Rattle.s66_facts.specs.declared.direction.Direction.TheVariants.{Forward, Backward}
 use Rattle.s66_facts.specs.Marked.{before_in}

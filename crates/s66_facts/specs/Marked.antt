@@ -1,10 +1,7 @@
 -- Used by contracts: which number stands before which, by a set for each number.
 use Rattle.std.specs.Prelude.{ℕ, ◌-◌, ◌≡◌, ◌≤◌, ◌&&◌, Bool, List, length, get_or, nat_le}
-use Rattle.s66_isa.specs.declared.instr.Instr.{Instr}
-use Rattle.s66_isa.specs.declared.set.Set.{Set}
-use Rattle.s66_isa.specs.Lists.{has}
-use Rattle.s66_isa.specs.Members.{numbers_in, no_set}
-use Rattle.s66_moments.specs.Networks.{precedes}
+use Rattle.s66_isa.specs.{Instr, Set, has, numbers_in, no_set}
+use Rattle.s66_moments.specs.{precedes}
 
 -- a number of the block
 abbrev pub is_in : List Set → ℕ → Bool

@@ -1,17 +1,8 @@
 -- Used by contracts: which of the numbers that stand before one, or after it, decide its times: each other one has what is asked of it handed on by one between.
 use Rattle.std.specs.Prelude.{ℕ, ◌-◌, ◌≡◌, ◌⊎◌, Bool, true, not, ◌||◌, ◌&&◌, List, length, map, get_or}
-use Rattle.s66_isa.specs.declared.instr.Instr.{Instr}
-use Rattle.s66_isa.specs.declared.profile.Profile.{Profile}
-use Rattle.s66_isa.specs.declared.reg.Reg.{Reg}
-use Rattle.s66_isa.specs.Lists.{every}
-use Rattle.s66_isa.specs.Table.{Row, row, Write, same_kind, has_reg, memory_pair}
-use Rattle.s66_model.specs.Timing.{Problem, row_at}
-use Rattle.s66_moments.specs.declared.fact_line.KnownArc.{KnownArc}
-use Rattle.s66_moments.specs.Moments.{writes}
-use Rattle.s66_moments.specs.Facts.{IsNumber}
-use Rattle.s66_isa.specs.declared.set.Set.{Set}
-use Rattle.s66_isa.specs.Lists.{has}
-use Rattle.s66_isa.specs.Members.{numbers_in, no_set}
+use Rattle.s66_isa.specs.{Instr, Profile, Reg, every, Row, row, Write, same_kind, has_reg, memory_pair, Set, has, numbers_in, no_set}
+use Rattle.s66_model.specs.{Problem, row_at}
+use Rattle.s66_moments.specs.{KnownArc, writes, IsNumber}
 use Rattle.s66_facts.specs.Marked.{before_in}
 use Rattle.s66_facts.specs.BlockGround.{IsAcyclic}
 use Rattle.s66_facts.specs.Passes.{share_unit}

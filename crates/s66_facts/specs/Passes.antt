@@ -1,15 +1,8 @@
 -- Used by contracts: the times of the moments of an instruction, and how they are found by one step from those of the others.
 use Rattle.std.specs.Prelude.{ℕ, zero, suc, ◌+◌, ◌-◌, ◌^◌, ◌≡◌, Bool, not, if◌then◌else◌, ◌&&◌, ◌==◌, max, min, List, [], ◌∷◌, get_or, Option, Some, None}
-use Rattle.s66_isa.specs.declared.reg.Reg.{Reg}
-use Rattle.s66_isa.specs.Table.{Row, Write, same_kind, has_reg, memory_pair, numbers}
-use Rattle.s66_model.specs.Timing.{Problem, row_at, copies}
-use Rattle.s66_moments.specs.declared.moment.Stage.TheVariants.{Issue, Start, Done, Free}
-use Rattle.s66_moments.specs.declared.moment.Moment.{Moment}
-use Rattle.s66_moments.specs.declared.moment.Moment.TheVariants.{Origin, At, End}
-use Rattle.s66_moments.specs.declared.fact_line.KnownArc.{KnownArc}
-use Rattle.s66_moments.specs.Moments.{writes, fetches, latency_to, only_if}
-use Rattle.s66_moments.specs.Networks.{same_moment}
-use Rattle.s66_moments.specs.KnownFacts.{later, latest}
+use Rattle.s66_isa.specs.{Reg, Row, Write, same_kind, has_reg, memory_pair, numbers}
+use Rattle.s66_model.specs.{Problem, row_at, copies}
+use Rattle.s66_moments.specs.{Issue, Start, Done, Free, Moment, Origin, At, End, KnownArc, writes, fetches, latency_to, only_if, same_moment, later, latest}
 use Rattle.s66_facts.specs.declared.direction.Direction.{Direction}
 use Rattle.s66_facts.specs.declared.direction.Direction.TheVariants.{Forward, Backward}
 use Rattle.s66_facts.specs.declared.times.Times.{Times}

@@ -1,13 +1,10 @@
 -- Used by contracts within the crate alone: the times of all numbers, and which of them are right if those of all that comes sooner are, so that all are right once all numbers have theirs.
 use Rattle.std.specs.Prelude.{ℕ, ◌+◌, ◌-◌, ◌≡◌, ◌≤◌, Bool, true, not, ◌||◌, ◌==◌, List}
-use Rattle.s66_moments.specs.declared.moment.Moment.{Moment}
-use Rattle.s66_moments.specs.Facts.{IsNumber}
+use Rattle.s66_isa.specs.{Set, has, numbers_in}
+use Rattle.s66_moments.specs.{Moment, IsNumber}
 use Rattle.s66_facts.specs.declared.direction.Direction.{Direction}
 use Rattle.s66_facts.specs.declared.direction.Direction.TheVariants.{Forward, Backward}
-use Rattle.s66_isa.specs.declared.set.Set.{Set}
 use Rattle.s66_facts.specs.declared.times.Times.{Times}
-use Rattle.s66_isa.specs.Lists.{has}
-use Rattle.s66_isa.specs.Members.{numbers_in}
 use Rattle.s66_facts.specs.Marked.{before_in}
 use Rattle.s66_facts.specs.BlockGround.{Ground}
 use Rattle.s66_facts.specs.Passes.{times_at, AreTimes}

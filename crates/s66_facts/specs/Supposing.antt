@@ -1,8 +1,7 @@
 -- Used by contracts: what is known of a block with what is supposed, and what was known before that.
 use Rattle.std.specs.Prelude.{ℕ, ◌≡◌, ◌≢◌, ◌≤◌, false, length, Option, IfSome, option_map}
-use Rattle.s66_model.specs.Timing.{Problem}
-use Rattle.s66_moments.specs.Facts.{IsNumber}
-use Rattle.s66_moments.specs.Suppositions.{Supposition, Standing}
+use Rattle.s66_model.specs.{Problem}
+use Rattle.s66_moments.specs.{IsNumber, Supposition, Standing}
 use Rattle.s66_facts.specs.declared.supposing.OpenSupposition.{OpenSupposition}
 use Rattle.s66_facts.specs.Marked.{before_in}
 use Rattle.s66_facts.specs.BlockGround.{Ground, known_of}

@@ -4,17 +4,9 @@
 //! keep what was found before. So one more fact costs a step for each number whose times may change, and not the whole network.
 
 ghost use Rattle.std.specs.Prelude.{ℕ, ◌+◌, ◌≡◌, ◌≤◌, ◌<◌, ◌||◌, IsTrue, true, false, length};
-ghost use Rattle.s66_isa.specs.declared.limits.TheConstants.{BLOCK_LIMIT};
-ghost use Rattle.s66_moments.specs.declared.moment.Stage.TheVariants.{Issue, Start};
-ghost use Rattle.s66_moments.specs.declared.moment.Moment.TheVariants.{At};
-ghost use Rattle.s66_moments.specs.Facts.{IsNumber};
-ghost use Rattle.s66_moments.specs.Networks.{same_moment};
-ghost use Rattle.s66_isa.specs.Lists.{has};
-ghost use Rattle.s66_isa.specs.Members.{numbers_in};
-ghost use Rattle.s66_facts.specs.Marked.{before_in};
-ghost use Rattle.s66_facts.specs.BlockGround.{IsAcyclic};
-ghost use Rattle.s66_facts.specs.Directions.{can_begin, sooner};
-ghost use Rattle.s66_facts.specs.Settled.{AreAll, IsReady, IsMarkedUpTo, AreSettled, keeps, nth_number};
+ghost use Rattle.s66_isa.specs.{BLOCK_LIMIT, has, numbers_in};
+ghost use Rattle.s66_moments.specs.{Issue, Start, At, IsNumber, same_moment};
+ghost use Rattle.s66_facts.specs.{before_in, IsAcyclic, can_begin, sooner, AreAll, IsReady, IsMarkedUpTo, AreSettled, keeps, nth_number};
 
 use crate::direction::Direction;
 use crate::graph::Graph;

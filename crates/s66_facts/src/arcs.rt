@@ -2,10 +2,8 @@
 //! Those of each number are in a chain; an arc that says no more than another between the same moments is in none.
 
 ghost use Rattle.std.specs.Prelude.{ℕ, ◌-◌, ◌≡◌, ◌≤◌, ◌<◌, ◌++◌, ◌∷◌, [], IsTrue, false, length, get_or};
-ghost use Rattle.s66_isa.specs.declared.limits.TheConstants.{BLOCK_LIMIT};
-ghost use Rattle.s66_facts.specs.declared.limits.TheConstants.{FACT_LIMIT};
-ghost use Rattle.s66_facts.specs.Chained.{number_of, no_arc, along, is_as_long, HasAsLong, IsFalling, IsChained};
-ghost use Rattle.s66_facts.specs.Passes.{by_arc, time_along, by_loads};
+ghost use Rattle.s66_isa.specs.{BLOCK_LIMIT};
+ghost use Rattle.s66_facts.specs.{FACT_LIMIT, number_of, no_arc, along, is_as_long, HasAsLong, IsFalling, IsChained, by_arc, time_along, by_loads};
 
 use crate::direction::Direction;
 use crate::limits::FACT_LIMIT;
@@ -119,7 +117,7 @@ fn latest_along(
 
 impl Chains {
     ghost use Rattle.std.specs.Prelude.{replicate};
-    ghost use Rattle.s66_facts.specs.Chained.{IsPushed};
+    ghost use Rattle.s66_facts.specs.{IsPushed};
 
     /// Of no arcs.
     fn none() -> Chains
@@ -186,8 +184,8 @@ pub(crate) struct Arcs {
 
 impl Model for Arcs {
     ghost use Rattle.std.specs.Prelude.{List};
-    ghost use Rattle.s66_moments.specs.declared.fact_line.KnownArc.{KnownArc as KnownArcOf};
-    ghost use Rattle.s66_isa.specs.declared.limits.TheConstants.{BLOCK_LIMIT};
+    ghost use Rattle.s66_moments.specs.{KnownArc as KnownArcOf};
+    ghost use Rattle.s66_isa.specs.{BLOCK_LIMIT};
     ghost use Rattle.s66_facts.specs.declared.direction.Direction.TheVariants.{Forward, Backward};
     ghost use Rattle.s66_facts.specs.Chained.{IsChained};
 

@@ -2,12 +2,10 @@
 //! It is the transitive closure of the dependence graph, a word of 128 bits for each number, in one pass over the block.
 
 ghost use Rattle.std.specs.Prelude.{ℕ, ◌≡◌, ◌+◌, ◌≤◌, ◌<◌, length, get_or};
-ghost use Rattle.s66_isa.specs.declared.limits.TheConstants.{BLOCK_LIMIT};
-ghost use Rattle.s66_model.specs.Dependence.{share, conflict, depends};
-ghost use Rattle.s66_moments.specs.Networks.{precedes};
-ghost use Rattle.s66_isa.specs.Lists.{has};
-ghost use Rattle.s66_isa.specs.Members.{numbers_in, no_set};
-ghost use Rattle.s66_facts.specs.Marked.{IsClosedUpTo};
+ghost use Rattle.s66_isa.specs.{BLOCK_LIMIT, has, numbers_in, no_set};
+ghost use Rattle.s66_model.specs.{share, conflict, depends};
+ghost use Rattle.s66_moments.specs.{precedes};
+ghost use Rattle.s66_facts.specs.{IsClosedUpTo};
 
 use arrayvec::ArrayVec;
 use s66_isa::{BLOCK_LIMIT, Instr, Reg, Set, has_register, is_memory_conflict};

@@ -13,7 +13,7 @@ pub(crate) enum Direction {
 
 impl Direction {
     ghost use Rattle.std.specs.Prelude.{◌≡◌};
-    ghost use Rattle.s66_facts.specs.Directions.{source, arc_start, arc_end};
+    ghost use Rattle.s66_facts.specs.{source, arc_start, arc_end};
 
     /// The moment at which all paths begin.
     pub(crate) fn source(self) -> Moment

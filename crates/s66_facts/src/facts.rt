@@ -2,8 +2,8 @@
 //! These are the calls of the crate: a line is taken in if what is known shows it (`take_pair`, `take_load`).
 
 ghost use Rattle.std.specs.Prelude.{ℕ, ◌≡◌, ◌≢◌, ◌≤◌, ◌<◌, ◌||◌, if◌then◌else◌, true, false, length};
-ghost use Rattle.s66_isa.specs.declared.limits.TheConstants.{BLOCK_LIMIT};
-ghost use Rattle.s66_facts.specs.declared.limits.TheConstants.{FACT_LIMIT};
+ghost use Rattle.s66_isa.specs.{BLOCK_LIMIT};
+ghost use Rattle.s66_facts.specs.{FACT_LIMIT};
 
 use crate::again::{all_but, all_kept, find_again, find_all};
 use crate::direction::Direction;
@@ -33,8 +33,7 @@ pub struct Facts {
 
 impl Model for Facts {
     ghost use Rattle.std.specs.Prelude.{◌≡◌, true};
-    ghost use Rattle.s66_moments.specs.declared.moment.Moment.TheVariants.{Origin, End};
-    ghost use Rattle.s66_moments.specs.KnownFacts.{is_front, is_back};
+    ghost use Rattle.s66_moments.specs.{Origin, End, is_front, is_back};
     ghost use Rattle.s66_facts.specs.BlockGround.{Ground};
     ghost use Rattle.s66_facts.specs.declared.direction.Direction.TheVariants.{Forward, Backward};
     ghost use Rattle.s66_facts.specs.Settled.{AreAll};
@@ -49,16 +48,10 @@ impl Model for Facts {
 }
 
 impl Facts {
-    ghost use Rattle.s66_moments.specs.declared.moment.Moment.TheVariants.{Origin, End};
-    ghost use Rattle.s66_moments.specs.declared.fact_line.FactLine.TheVariants.{Pair, Load};
-    ghost use Rattle.s66_moments.specs.Facts.{IsNumber};
-    ghost use Rattle.s66_moments.specs.KnownFacts.{known_first, with_line, arcs_of, span, is_late_by_parcels, is_late_by_unit, is_pair_taken, is_taken, is_front, is_back, is_load_taken};
-    ghost use Rattle.s66_isa.specs.Lists.{some_of};
-    ghost use Rattle.s66_isa.specs.Table.{numbers};
-    ghost use Rattle.s66_moments.specs.Suppositions.{is_late_through, is_late as is_too_late};
-    ghost use Rattle.s66_facts.specs.Marked.{before_in};
-    ghost use Rattle.s66_facts.specs.BlockGround.{IsAcyclic, known_of};
-    ghost use Rattle.s66_facts.specs.Passes.{times_at, AreTimes};
+    ghost use Rattle.s66_moments.specs.{Origin, End, Pair, Load, IsNumber, known_first, with_line, arcs_of, span, is_late_by_parcels, is_late_by_unit, is_pair_taken, is_taken, is_front, is_back};
+    ghost use Rattle.s66_moments.specs.{is_load_taken, is_late_through, is_late as is_too_late};
+    ghost use Rattle.s66_isa.specs.{some_of, numbers};
+    ghost use Rattle.s66_facts.specs.{before_in, IsAcyclic, known_of, times_at, AreTimes};
 
     /// What is known of a block under a profile by dependence alone. It takes the time of the longest paths from a moment and to
     /// another.

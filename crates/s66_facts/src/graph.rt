@@ -2,9 +2,8 @@
 //! It is the network in which `paths.rt` follows the longest paths.
 
 ghost use Rattle.std.specs.Prelude.{ℕ, ◌≡◌, ◌≢◌, ◌≤◌, ◌<◌, ◌↔◌, IsTrue, true, false, [], ◌∷◌, ◌++◌, length, map};
-ghost use Rattle.s66_isa.specs.Table.{row};
-ghost use Rattle.s66_isa.specs.declared.limits.TheConstants.{BLOCK_LIMIT};
-ghost use Rattle.s66_facts.specs.declared.limits.TheConstants.{FACT_LIMIT};
+ghost use Rattle.s66_isa.specs.{row, BLOCK_LIMIT};
+ghost use Rattle.s66_facts.specs.{FACT_LIMIT};
 
 use crate::arcs::Arcs;
 use crate::closure::{before_each, marks_at};
@@ -60,17 +59,10 @@ fn rows_of(block: &[Instr], profile: &Profile) -> ArrayVec<Row, BLOCK_LIMIT>
 }
 
 impl Graph {
-    ghost use Rattle.s66_model.specs.Timing.{row_at, copies};
-    ghost use Rattle.s66_moments.specs.Facts.{IsNumber};
-    ghost use Rattle.s66_isa.specs.Lists.{has};
-    ghost use Rattle.s66_isa.specs.Members.{numbers_in};
-    ghost use Rattle.s66_facts.specs.Marked.{before_in};
-    ghost use Rattle.s66_facts.specs.BlockGround.{IsAcyclic, known_of};
-    ghost use Rattle.s66_facts.specs.Directions.{sooner};
-    ghost use Rattle.s66_facts.specs.Near.{IsNear};
-    ghost use Rattle.s66_facts.specs.Passes.{share_unit};
-    ghost use Rattle.s66_moments.specs.KnownFacts.{known_first, with_line, is_number, is_arc_up};
-    ghost use Rattle.s66_moments.specs.declared.fact_line.FactLine.TheVariants.{Pair};
+    ghost use Rattle.s66_model.specs.{row_at, copies};
+    ghost use Rattle.s66_moments.specs.{IsNumber, known_first, with_line, is_number, is_arc_up, Pair};
+    ghost use Rattle.s66_isa.specs.{has, numbers_in};
+    ghost use Rattle.s66_facts.specs.{before_in, IsAcyclic, known_of, sooner, IsNear, share_unit};
 
     /// What is known of a block under a profile by dependence alone.
     pub(crate) fn new(block: &[Instr], profile: &Profile) -> Graph

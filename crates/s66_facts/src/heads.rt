@@ -1,8 +1,8 @@
 //! The longest paths from a moment to those of an instruction, by those of what stands before it.
 
 ghost use Rattle.std.specs.Prelude.{◌≡◌};
-ghost use Rattle.s66_moments.specs.Facts.{IsNumber};
-ghost use Rattle.s66_facts.specs.Passes.{issue_after, start_after, done_after, after_one, at_once, head_issue, head_start, head_done, head_results, head_free, heads_of};
+ghost use Rattle.s66_moments.specs.{IsNumber};
+ghost use Rattle.s66_facts.specs.{issue_after, start_after, done_after, after_one, at_once, head_issue, head_start, head_done, head_results, head_free, heads_of};
 
 use crate::graph::Graph;
 use crate::times::{

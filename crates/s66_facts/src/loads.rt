@@ -5,20 +5,11 @@
 //! than the first. `s66_deep` looks for such lines; here one is only tested.
 
 ghost use Rattle.std.specs.Prelude.{◌+◌, ◌*◌, ◌^◌, ◌≡◌, ◌≤◌, ◌<◌, ◌&&◌, true, Some, length, map, nat_lt};
-ghost use Rattle.s66_isa.specs.declared.limits.TheConstants.{BLOCK_LIMIT};
-ghost use Rattle.s66_isa.specs.Lists.{every, some_of, least, weigh};
-ghost use Rattle.s66_model.specs.Timing.{row_at};
-ghost use Rattle.s66_model.specs.Leaves.{over};
-ghost use Rattle.s66_moments.specs.Facts.{IsNumber};
-ghost use Rattle.s66_moments.specs.Moments.{is_moment};
-ghost use Rattle.s66_moments.specs.FactLines.{Use, use_time};
-ghost use Rattle.s66_moments.specs.KnownFacts.{is_front, is_back, is_number, use_of, kind_of_load, plus, span, reaches, are_rising, leads_up, is_used, are_used, is_arc_up};
-ghost use Rattle.s66_moments.specs.Suppositions.{is_late_load};
-ghost use Rattle.s66_facts.specs.Marked.{before_in};
-ghost use Rattle.s66_facts.specs.BlockGround.{ground_arcs};
-ghost use Rattle.s66_facts.specs.Passes.{AreTimes};
-ghost use Rattle.s66_facts.specs.declared.direction.Direction.TheVariants.{Forward, Backward};
-ghost use Rattle.s66_facts.specs.Settled.{AreAll};
+ghost use Rattle.s66_isa.specs.{BLOCK_LIMIT, every, some_of, least, weigh};
+ghost use Rattle.s66_model.specs.{row_at, over};
+ghost use Rattle.s66_moments.specs.{IsNumber, is_moment, Use, use_time, is_front, is_back, is_number, use_of, kind_of_load, plus, span, reaches, are_rising, leads_up, is_used, are_used, is_arc_up};
+ghost use Rattle.s66_moments.specs.{is_late_load};
+ghost use Rattle.s66_facts.specs.{before_in, ground_arcs, AreTimes, Forward, Backward, AreAll};
 
 use crate::graph::Graph;
 use crate::times::{Times, is_same_moment, times_at};

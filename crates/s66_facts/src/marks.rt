@@ -1,9 +1,7 @@
 //! Sets of a block's numbers, one for each of its instructions: copies, and empty ones.
 
 ghost use Rattle.std.specs.Prelude.{ℕ, ◌-◌, ◌≡◌, ◌≤◌, false, length, get_or};
-ghost use Rattle.s66_isa.specs.declared.limits.TheConstants.{BLOCK_LIMIT};
-ghost use Rattle.s66_isa.specs.Lists.{has};
-ghost use Rattle.s66_isa.specs.Members.{numbers_in, no_set};
+ghost use Rattle.s66_isa.specs.{BLOCK_LIMIT, has, numbers_in, no_set};
 
 use arrayvec::ArrayVec;
 use s66_isa::{BLOCK_LIMIT, Set};

@@ -5,12 +5,9 @@
 //! n, then the arc from m to n says nothing that those by k don't say.
 
 ghost use Rattle.std.specs.Prelude.{ℕ, ◌-◌, ◌≡◌, ◌≤◌, ◌⊎◌, ◌||◌, IsTrue, true, false, length, get_or};
-ghost use Rattle.s66_isa.specs.declared.limits.TheConstants.{BLOCK_LIMIT};
-ghost use Rattle.s66_moments.specs.Facts.{IsNumber};
-ghost use Rattle.s66_isa.specs.Lists.{has};
-ghost use Rattle.s66_isa.specs.Members.{numbers_in, no_set};
-ghost use Rattle.s66_facts.specs.Marked.{before_in};
-ghost use Rattle.s66_facts.specs.Near.{uses, hands_on, covers, IsCovered, AreNear};
+ghost use Rattle.s66_isa.specs.{BLOCK_LIMIT, has, numbers_in, no_set};
+ghost use Rattle.s66_moments.specs.{IsNumber};
+ghost use Rattle.s66_facts.specs.{before_in, uses, hands_on, covers, IsCovered, AreNear};
 
 use crate::closure::marks_at;
 use crate::graph::Graph;

@@ -2,11 +2,9 @@
 //! With it more numbers stand before others: the closure with one more arc.
 
 ghost use Rattle.std.specs.Prelude.{ℕ, ◌≡◌, ◌≤◌, ◌<◌, ◌+◌, ◌-◌, ◌==◌, ◌||◌, ◌&&◌, length, get_or};
-ghost use Rattle.s66_isa.specs.declared.limits.TheConstants.{BLOCK_LIMIT};
-ghost use Rattle.s66_moments.specs.Networks.{with_pair};
-ghost use Rattle.s66_isa.specs.Lists.{has};
-ghost use Rattle.s66_isa.specs.Members.{numbers_in, no_set};
-ghost use Rattle.s66_facts.specs.Marked.{before_in};
+ghost use Rattle.s66_isa.specs.{BLOCK_LIMIT, has, numbers_in, no_set};
+ghost use Rattle.s66_moments.specs.{with_pair};
+ghost use Rattle.s66_facts.specs.{before_in};
 
 use crate::closure::marks_at;
 use arrayvec::ArrayVec;

@@ -2,14 +2,9 @@
 //! Here is one step of that: the times of a number, by those that decide them.
 
 ghost use Rattle.std.specs.Prelude.{ℕ, ◌≡◌, true};
-ghost use Rattle.s66_isa.specs.declared.limits.TheConstants.{BLOCK_LIMIT};
-ghost use Rattle.s66_moments.specs.Facts.{IsNumber};
-ghost use Rattle.s66_isa.specs.Lists.{has};
-ghost use Rattle.s66_isa.specs.Members.{numbers_in};
-ghost use Rattle.s66_facts.specs.BlockGround.{IsAcyclic};
-ghost use Rattle.s66_facts.specs.Directions.{can_begin};
-ghost use Rattle.s66_facts.specs.Settled.{IsStep};
-ghost use Rattle.s66_facts.specs.Passes.{by_one, by_all, all_moments};
+ghost use Rattle.s66_isa.specs.{BLOCK_LIMIT, has, numbers_in};
+ghost use Rattle.s66_moments.specs.{IsNumber};
+ghost use Rattle.s66_facts.specs.{IsAcyclic, can_begin, IsStep, by_one, by_all, all_moments};
 
 use crate::direction::Direction;
 use crate::graph::Graph;

@@ -1,8 +1,8 @@
 //! What is known of a block while steps are taken one after the other, with what is supposed.
 
 ghost use Rattle.std.specs.Prelude.{◌≡◌, ◌≤◌, ◌<◌, ◌+◌, ◌&&◌, not, IsTrue, is_some, length};
-ghost use Rattle.s66_isa.specs.declared.limits.TheConstants.{BLOCK_LIMIT};
-ghost use Rattle.s66_facts.specs.declared.limits.TheConstants.{FACT_LIMIT};
+ghost use Rattle.s66_isa.specs.{BLOCK_LIMIT};
+ghost use Rattle.s66_facts.specs.{FACT_LIMIT};
 
 use crate::facts::Facts;
 use s66_isa::{Instr, Profile};
@@ -38,11 +38,9 @@ impl Model for Supposing {
 }
 
 impl Supposing {
-    ghost use Rattle.s66_moments.specs.KnownFacts.{is_taken};
-    ghost use Rattle.s66_moments.specs.Suppositions.{standing_first, with_step, may_be_supposed, is_late, is_step_taken};
+    ghost use Rattle.s66_moments.specs.{is_taken, standing_first, with_step, may_be_supposed, is_late, is_step_taken};
     ghost use Rattle.s66_moments.specs.declared.fact_line.FactStep.TheVariants.{Fact, Suppose, Refuted};
-    ghost use Rattle.s66_facts.specs.BlockGround.{known_of};
-    ghost use Rattle.s66_facts.specs.Supposing.{standing_in};
+    ghost use Rattle.s66_facts.specs.{known_of, standing_in};
 
     /// What is known of a block under a profile before the first step.
     pub fn new(block: &[Instr], profile: &Profile) -> Supposing

@@ -1,8 +1,8 @@
 //! The longest paths from the moments of an instruction to a moment, by those of what stands after it.
 
 ghost use Rattle.std.specs.Prelude.{◌≡◌};
-ghost use Rattle.s66_moments.specs.Facts.{IsNumber};
-ghost use Rattle.s66_facts.specs.Passes.{start_before, done_before, before_one, tail_done, tail_results, tail_start, tail_issue, tails_of};
+ghost use Rattle.s66_moments.specs.{IsNumber};
+ghost use Rattle.s66_facts.specs.{start_before, done_before, before_one, tail_done, tail_results, tail_start, tail_issue, tails_of};
 
 use crate::graph::Graph;
 use crate::times::{

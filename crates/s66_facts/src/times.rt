@@ -1,12 +1,9 @@
 //! Longest paths to or from the moments of an instruction, in minor cycles.
 
 ghost use Rattle.std.specs.Prelude.{◌≡◌, ◌&&◌, not, if◌then◌else◌, Some};
-ghost use Rattle.s66_isa.specs.Lists.{greatest, some_of};
-ghost use Rattle.s66_isa.specs.Table.{Write as WriteOf, same_reg, has_reg};
-ghost use Rattle.s66_moments.specs.Moments.{writes, fetches, only_if};
-ghost use Rattle.s66_moments.specs.Networks.{same_moment, same_stage};
-ghost use Rattle.s66_moments.specs.KnownFacts.{later, plus, reaches};
-ghost use Rattle.s66_facts.specs.Passes.{add, when, times_at, latest_done, latest_result, time_at_moment, time_along};
+ghost use Rattle.s66_isa.specs.{greatest, some_of, Write as WriteOf, same_reg, has_reg};
+ghost use Rattle.s66_moments.specs.{writes, fetches, only_if, same_moment, same_stage, later, plus, reaches};
+ghost use Rattle.s66_facts.specs.{add, when, times_at, latest_done, latest_result, time_at_moment, time_along};
 
 use crate::direction::Direction;
 use s66_isa::{BLOCK_LIMIT, Reg, Row, Write, has_register, is_same_register};
@@ -26,7 +23,7 @@ pub struct Times {
 
 impl Times {
     ghost use Rattle.std.specs.Prelude.{◌≡◌, ◌↔◌, IsTrue};
-    ghost use Rattle.s66_facts.specs.Passes.{no_times, later_times};
+    ghost use Rattle.s66_facts.specs.{no_times, later_times};
 
     /// The later of two at each moment.
     pub(crate) fn later(&self, other: &Times) -> Times

@@ -1,9 +1,6 @@
 use Rattle.std.proofs.Common.{ℕ, ◌≡◌, ◌||◌, true, false}
-use Rattle.s66_moments.specs.declared.moment.Stage.TheVariants.{Issue, Start}
-use Rattle.s66_moments.specs.declared.moment.Moment.TheVariants.{At}
-use Rattle.s66_moments.specs.Networks.{same_moment}
-use Rattle.s66_isa.specs.Lists.{has}
-use Rattle.s66_isa.specs.Members.{numbers_in}
+use Rattle.s66_isa.specs.{has, numbers_in}
+use Rattle.s66_moments.specs.{Issue, Start, At, same_moment}
 use Rattle.s66_facts.proofs.again.all_but.Given as goal
 
 abbrev pub invariant-loop-position : goal.invariant-loop-position

@@ -1,10 +1,7 @@
-use Rattle.std.proofs.Common.{◌+◌, ◌≡◌, ◌==◌, true, sym, subst, inl, inr, ◌∙◌}
-use Rattle.std.proofs.lemmas.Bool.{or_cases, eqb-true}
-use Rattle.s66_isa.specs.Lists.{has}
-use Rattle.s66_isa.specs.Members.{numbers_in}
-use Rattle.s66_facts.specs.Marked.{before_in}
-use Rattle.s66_facts.specs.Directions.{sooner}
-use Rattle.s66_facts.specs.Settled.{keeps}
+use Rattle.std.proofs.Common.{◌+◌, ◌≡◌, ◌==◌, true, sym, subst, inl, inr, ◌∙◌, eqb-true}
+use Rattle.std.proofs.lemmas.Bool.{or_cases}
+use Rattle.s66_isa.specs.{has, numbers_in}
+use Rattle.s66_facts.specs.{before_in, sooner, keeps}
 use Rattle.s66_facts.proofs.again.all_kept.Goals.{then-keeps, else-keeps}
 use Rattle.s66_facts.proofs.again.all_kept.Goals as goal
 

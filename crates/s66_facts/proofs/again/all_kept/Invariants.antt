@@ -1,9 +1,6 @@
 use Rattle.std.proofs.Common.{ℕ, ◌≡◌, true}
-use Rattle.s66_isa.specs.Lists.{has}
-use Rattle.s66_isa.specs.Members.{numbers_in}
-use Rattle.s66_facts.specs.Marked.{before_in}
-use Rattle.s66_facts.specs.Directions.{sooner}
-use Rattle.s66_facts.specs.Settled.{keeps}
+use Rattle.s66_isa.specs.{has, numbers_in}
+use Rattle.s66_facts.specs.{before_in, sooner, keeps}
 use Rattle.s66_facts.proofs.again.all_kept.Given as goal
 
 abbrev pub invariant-loop-position : goal.invariant-loop-position

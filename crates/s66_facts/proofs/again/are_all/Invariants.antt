@@ -1,6 +1,5 @@
 use Rattle.std.proofs.Common.{ℕ, ◌≡◌, ◌≤◌, true}
-use Rattle.s66_isa.specs.Lists.{has}
-use Rattle.s66_isa.specs.Members.{numbers_in}
+use Rattle.s66_isa.specs.{has, numbers_in}
 use Rattle.s66_facts.proofs.again.are_all.Given as goal
 
 abbrev pub invariant-loop-position : goal.invariant-loop-position

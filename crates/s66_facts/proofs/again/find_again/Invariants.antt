@@ -1,4 +1,4 @@
-use Rattle.s66_facts.specs.Settled.{AreSettled, IsMarkedUpTo}
+use Rattle.s66_facts.specs.{AreSettled, IsMarkedUpTo}
 use Rattle.s66_facts.proofs.again.find_again.Given as goal
 
 abbrev pub invariant-loop-round : goal.invariant-loop-round

@@ -1,5 +1,5 @@
 use Rattle.std.proofs.Common.{true≢false, sym, ap, ◌∙◌}
-use Rattle.s66_isa.specs.Lists.{has}
+use Rattle.s66_isa.specs.{has}
 use Rattle.s66_facts.proofs.again.find_all.Goals as goal
 
 pub find_again-requires-clause-settled : goal.find_again-requires-clause-settled

@@ -1,9 +1,7 @@
 use Rattle.std.proofs.Common.{◌≤◌, ◌≡◌, ◌==◌, false, true≢false, length, sym, arith, ◌∙◌}
 use Rattle.std.proofs.lemmas.Bool.{or_right}
-use Rattle.s66_isa.specs.Lists.{has}
-use Rattle.s66_isa.specs.Members.{numbers_in}
-use Rattle.s66_facts.specs.Marked.{before_in}
-use Rattle.s66_facts.specs.Directions.{sooner}
+use Rattle.s66_isa.specs.{has, numbers_in}
+use Rattle.s66_facts.specs.{before_in, sooner}
 use Rattle.s66_facts.proofs.Covered.{sooner-number}
 use Rattle.s66_facts.proofs.Settled.{step-kept, step-settled, still-marked, none-asked}
 use Rattle.s66_facts.proofs.again.settle.Goals as goal

@@ -1,8 +1,7 @@
 use Rattle.std.proofs.Common.{ℕ, ◌+◌, ◌≡◌, ◌≤◌, ◌<◌, true, length, sym, subst, arith, inl, inr, ◌∙◌}
-use Rattle.s66_moments.specs.Facts.{IsNumber}
-use Rattle.s66_isa.specs.Lists.{has}
-use Rattle.s66_isa.specs.Members.{numbers_in}
-use Rattle.s66_facts.specs.Directions.{rank}
+use Rattle.s66_isa.specs.{has, numbers_in}
+use Rattle.s66_moments.specs.{IsNumber}
+use Rattle.s66_facts.specs.{rank}
 use Rattle.s66_facts.proofs.Told.{rank-less, nth-range, seen-none, seen-cases, seen-all}
 use Rattle.s66_facts.proofs.again.settle_each.Goals as goal
 

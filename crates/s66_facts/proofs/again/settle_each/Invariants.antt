@@ -1,9 +1,7 @@
 use Rattle.std.proofs.Common.{ℕ, ◌+◌, ◌≡◌, ◌≤◌, true, length}
-use Rattle.s66_moments.specs.Facts.{IsNumber}
-use Rattle.s66_isa.specs.Lists.{has}
-use Rattle.s66_isa.specs.Members.{numbers_in}
-use Rattle.s66_facts.specs.Directions.{rank}
-use Rattle.s66_facts.specs.Settled.{AreSettled, IsMarkedUpTo}
+use Rattle.s66_isa.specs.{has, numbers_in}
+use Rattle.s66_moments.specs.{IsNumber}
+use Rattle.s66_facts.specs.{rank, AreSettled, IsMarkedUpTo}
 use Rattle.s66_facts.proofs.Told.{IsSeen}
 use Rattle.s66_facts.proofs.again.settle_each.Given as goal
 

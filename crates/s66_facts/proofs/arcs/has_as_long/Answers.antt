@@ -1,6 +1,6 @@
 use Rattle.std.proofs.Common.{◌≡◌, ◌-◌, true, ◌<◌, ◌≤◌, subst, sym, arith, length, get_or, ◌∙◌}
-use Rattle.s66_moments.specs.KnownFacts.{later}
-use Rattle.s66_facts.specs.Chained.{along, is_as_long, no_arc}
+use Rattle.s66_moments.specs.{later}
+use Rattle.s66_facts.specs.{along, is_as_long, no_arc}
 use Rattle.s66_facts.proofs.Chained.{along-has, along-lifts, next-fits}
 use Rattle.s66_facts.proofs.arcs.has_as_long.Goals as goal
 

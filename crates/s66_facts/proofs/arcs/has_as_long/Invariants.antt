@@ -1,7 +1,6 @@
 use Rattle.std.proofs.Common.{ℕ, ◌≡◌, ◌≤◌, length, Option}
-use Rattle.s66_moments.specs.declared.fact_line.KnownArc.{KnownArc}
-use Rattle.s66_moments.specs.KnownFacts.{later}
-use Rattle.s66_facts.specs.Chained.{along}
+use Rattle.s66_moments.specs.{KnownArc, later}
+use Rattle.s66_facts.specs.{along}
 use Rattle.s66_facts.proofs.arcs.has_as_long.Given as goal
 
 abbrev pub invariant-loop-place : goal.invariant-loop-place

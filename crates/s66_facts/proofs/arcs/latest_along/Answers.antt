@@ -1,8 +1,6 @@
 use Rattle.std.proofs.Common.{ℕ, ◌≡◌, ◌-◌, ◌<◌, ◌≤◌, ap, arith, length, get_or, ◌∙◌, Option}
-use Rattle.s66_moments.specs.declared.fact_line.KnownArc.{KnownArc}
-use Rattle.s66_moments.specs.KnownFacts.{later}
-use Rattle.s66_facts.specs.Chained.{along, no_arc}
-use Rattle.s66_facts.specs.Passes.{by_arc, time_along}
+use Rattle.s66_moments.specs.{KnownArc, later}
+use Rattle.s66_facts.specs.{along, no_arc, by_arc, time_along}
 use Rattle.s66_facts.proofs.Chained.{along-next, next-fits}
 use Rattle.s66_facts.proofs.arcs.latest_along.Goals as goal
 

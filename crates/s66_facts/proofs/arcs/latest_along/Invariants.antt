@@ -1,7 +1,6 @@
 use Rattle.std.proofs.Common.{◌≡◌, ◌≤◌, length}
-use Rattle.s66_moments.specs.KnownFacts.{later}
-use Rattle.s66_facts.specs.Chained.{along}
-use Rattle.s66_facts.specs.Passes.{by_arc, time_along}
+use Rattle.s66_moments.specs.{later}
+use Rattle.s66_facts.specs.{along, by_arc, time_along}
 use Rattle.s66_facts.proofs.arcs.latest_along.Given as goal
 
 abbrev pub invariant-loop-place : goal.invariant-loop-place

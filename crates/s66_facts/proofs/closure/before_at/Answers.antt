@@ -1,8 +1,7 @@
 use Rattle.std.proofs.Common.{ℕ, ◌+◌, ◌≤◌, length, sym, subst, arith, ◌∙◌, ap}
-use Rattle.s66_isa.specs.declared.set.Set.{Set}
+use Rattle.s66_isa.specs.{Set, has}
 use Rattle.s66_facts.proofs.SoFar.{IsSoFar, so_far-none, so_far-more, so_far-past, so_far-all, closed-at}
 use Rattle.s66_facts.proofs.closure.before_at.Goals.{then-depends, else-depends}
-use Rattle.s66_isa.specs.Lists.{has}
 use Rattle.s66_facts.proofs.closure.before_at.Goals as goal
 
 pub loop-earlier-init : goal.loop-earlier-init

@@ -1,5 +1,5 @@
 use Rattle.std.proofs.Common.{◌≡◌, length}
-use Rattle.s66_facts.specs.Marked.{IsClosedUpTo}
+use Rattle.s66_facts.specs.{IsClosedUpTo}
 use Rattle.s66_facts.proofs.closure.before_each.Given as goal
 
 abbrev pub invariant-loop-position : goal.invariant-loop-position

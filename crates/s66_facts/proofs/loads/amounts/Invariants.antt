@@ -1,7 +1,6 @@
 use Rattle.std.proofs.Common.{◌+◌, ◌*◌, ◌^◌, ◌≡◌, ◌≤◌, true, map, drop}
-use Rattle.s66_isa.specs.Lists.{every, weigh}
-use Rattle.s66_moments.specs.FactLines.{Use}
-use Rattle.s66_moments.specs.KnownFacts.{is_number, use_of}
+use Rattle.s66_isa.specs.{every, weigh}
+use Rattle.s66_moments.specs.{Use, is_number, use_of}
 use Rattle.s66_facts.proofs.loads.amounts.Given as goal
 
 abbrev pub invariant-loop-n : goal.invariant-loop-n

@@ -1,6 +1,6 @@
 use Rattle.std.proofs.Common.{◌≡◌, drop}
-use Rattle.s66_isa.specs.Lists.{every}
-use Rattle.s66_moments.specs.KnownFacts.{is_number}
+use Rattle.s66_isa.specs.{every}
+use Rattle.s66_moments.specs.{is_number}
 use Rattle.s66_facts.proofs.loads.are_numbers.Given as goal
 
 abbrev pub invariant-loop-n : goal.invariant-loop-n

@@ -1,5 +1,5 @@
 use Rattle.std.proofs.Common.{◌-◌, ◌≡◌, ◌≤◌, drop}
-use Rattle.s66_moments.specs.KnownFacts.{are_rising}
+use Rattle.s66_moments.specs.{are_rising}
 use Rattle.s66_facts.proofs.loads.are_rising.Given as goal
 
 abbrev pub invariant-loop-place : goal.invariant-loop-place

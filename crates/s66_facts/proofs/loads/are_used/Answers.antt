@@ -1,8 +1,7 @@
 use Rattle.std.proofs.Common.{map, get_or, sym, ap, ◌∙◌}
-use Rattle.s66_isa.specs.Lists.{every}
-use Rattle.s66_moments.specs.FactLines.{use_time}
-use Rattle.s66_moments.specs.KnownFacts.{is_number, use_of, kind_of_load}
-use Rattle.s66_facts.specs.BlockGround.{ground_arcs}
+use Rattle.s66_isa.specs.{every}
+use Rattle.s66_moments.specs.{use_time, is_number, use_of, kind_of_load}
+use Rattle.s66_facts.specs.{ground_arcs}
 use Rattle.s66_facts.proofs.LoadTaken.{number-at, unused}
 use Rattle.s66_facts.proofs.loads.are_used.Goals as goal
 

@@ -1,7 +1,7 @@
 use Rattle.std.proofs.Common.{◌≡◌, true, drop}
-use Rattle.s66_isa.specs.Lists.{every}
-use Rattle.s66_moments.specs.KnownFacts.{is_number, is_used}
-use Rattle.s66_facts.specs.BlockGround.{ground_arcs}
+use Rattle.s66_isa.specs.{every}
+use Rattle.s66_moments.specs.{is_number, is_used}
+use Rattle.s66_facts.specs.{ground_arcs}
 use Rattle.s66_facts.proofs.loads.are_used.Given as goal
 
 abbrev pub invariant-loop-n : goal.invariant-loop-n

@@ -1,6 +1,6 @@
 use Rattle.std.proofs.Common.{◌≡◌, drop}
-use Rattle.s66_isa.specs.Lists.{some_of}
-use Rattle.s66_moments.specs.Suppositions.{is_late_load}
+use Rattle.s66_isa.specs.{some_of}
+use Rattle.s66_moments.specs.{is_late_load}
 use Rattle.s66_facts.proofs.loads.is_load_late.Given as goal
 
 abbrev pub invariant-loop-load : goal.invariant-loop-load

@@ -1,7 +1,6 @@
 use Rattle.std.proofs.Common.{◌^◌, ◌≡◌, ◌≤◌, true, map, drop}
-use Rattle.s66_isa.specs.Lists.{every, least}
-use Rattle.s66_moments.specs.FactLines.{Use}
-use Rattle.s66_moments.specs.KnownFacts.{is_number, use_of}
+use Rattle.s66_isa.specs.{every, least}
+use Rattle.s66_moments.specs.{Use, is_number, use_of}
 use Rattle.s66_moments.proofs.LeastUse.{least_with}
 use Rattle.s66_facts.proofs.loads.least_amount.Given as goal
 

@@ -1,6 +1,6 @@
 use Rattle.std.proofs.Common.{◌≡◌, ◌&&◌, false, sym, ◌∙◌}
 use Rattle.std.proofs.lemmas.Bool.{and_left, and_right}
-use Rattle.s66_moments.specs.KnownFacts.{is_number}
+use Rattle.s66_moments.specs.{is_number}
 use Rattle.s66_facts.proofs.LoadTaken.{outside}
 use Rattle.s66_facts.proofs.loads.stands_before.Goals.{then-is_number, else-is_number}
 use Rattle.s66_facts.proofs.loads.stands_before.Goals as goal

@@ -1,7 +1,6 @@
 use Rattle.std.proofs.Common.{ℕ, ◌≡◌, false, arith, ap}
-use Rattle.s66_isa.specs.Members.{numbers_in}
+use Rattle.s66_isa.specs.{numbers_in, has}
 use Rattle.s66_facts.proofs.Each.{each-push}
-use Rattle.s66_isa.specs.Lists.{has}
 use Rattle.s66_facts.proofs.marks.none_each.Goals as goal
 
 pub loop-position-preserved : goal.loop-position-preserved

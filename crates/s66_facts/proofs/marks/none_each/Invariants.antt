@@ -1,6 +1,5 @@
 use Rattle.std.proofs.Common.{ℕ, ◌-◌, ◌≡◌, ◌≤◌, false, length, get_or}
-use Rattle.s66_isa.specs.Lists.{has}
-use Rattle.s66_isa.specs.Members.{numbers_in, no_set}
+use Rattle.s66_isa.specs.{has, numbers_in, no_set}
 use Rattle.s66_facts.proofs.marks.none_each.Given as goal
 
 abbrev pub invariant-loop-position : goal.invariant-loop-position

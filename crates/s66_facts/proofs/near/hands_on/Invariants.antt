@@ -1,8 +1,7 @@
 use Rattle.std.proofs.Common.{◌≡◌, ◌||◌, not, drop}
-use Rattle.s66_isa.specs.Lists.{every}
-use Rattle.s66_isa.specs.Table.{Write}
-use Rattle.s66_moments.specs.Moments.{writes}
-use Rattle.s66_facts.specs.Near.{uses, hands_on}
+use Rattle.s66_isa.specs.{every, Write}
+use Rattle.s66_moments.specs.{writes}
+use Rattle.s66_facts.specs.{uses, hands_on}
 use Rattle.s66_facts.proofs.near.hands_on.Given as goal
 
 abbrev pub invariant-loop-write : goal.invariant-loop-write

@@ -1,11 +1,10 @@
 use Rattle.std.proofs.Common.{ℕ, ◌≡◌, ◌==◌, not, true, sym, ap, arith, ◌∙◌}
 use Rattle.std.proofs.lemmas.Bool.{and_parts}
-use Rattle.s66_moments.specs.Facts.{IsNumber}
-use Rattle.s66_isa.specs.Lists.{has}
-use Rattle.s66_isa.specs.Members.{numbers_in}
-use Rattle.s66_facts.specs.Marked.{before_in}
-use Rattle.s66_facts.proofs.Each.{within-marked}
+use Rattle.s66_isa.specs.{has, numbers_in}
 use Rattle.s66_isa.proofs.Sets.{taken-there, taken-out}
+use Rattle.s66_moments.specs.{IsNumber}
+use Rattle.s66_facts.specs.{before_in}
+use Rattle.s66_facts.proofs.Each.{within-marked}
 use Rattle.s66_facts.proofs.near.is_covered.Goals as goal
 
 pub loop-k-init : goal.loop-k-init

@@ -1,6 +1,5 @@
 use Rattle.std.proofs.Common.{ℕ, ◌≡◌, true, length}
-use Rattle.s66_isa.specs.Lists.{has}
-use Rattle.s66_isa.specs.Members.{numbers_in}
+use Rattle.s66_isa.specs.{has, numbers_in}
 use Rattle.s66_facts.proofs.near.is_covered.Given as goal
 
 abbrev pub invariant-loop-k : goal.invariant-loop-k

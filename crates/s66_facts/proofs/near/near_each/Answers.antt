@@ -1,11 +1,8 @@
 use Rattle.std.proofs.Common.{ℕ, ◌+◌, ◌≡◌, not, ◌||◌, ◌&&◌, List, true, false, length, get_or, sym, ap, subst, arith, ◌∙◌}
 use Rattle.std.proofs.lemmas.Bool.{and_left}
-use Rattle.s66_moments.specs.Facts.{IsNumber}
-use Rattle.s66_isa.specs.declared.set.Set.{Set}
-use Rattle.s66_isa.specs.Lists.{has}
-use Rattle.s66_isa.specs.Members.{numbers_in, no_set}
-use Rattle.s66_facts.specs.Marked.{before_in}
-use Rattle.s66_facts.specs.Near.{IsNear}
+use Rattle.s66_isa.specs.{Set, has, numbers_in, no_set}
+use Rattle.s66_moments.specs.{IsNumber}
+use Rattle.s66_facts.specs.{before_in, IsNear}
 use Rattle.s66_facts.proofs.Each.{each-push}
 use Rattle.s66_facts.proofs.NearEach.{at, near-numbers, near-now}
 use Rattle.s66_facts.proofs.near.near_each.Goals as goal

@@ -1,7 +1,6 @@
 use Rattle.std.proofs.Common.{ℕ, ◌-◌, ◌≡◌, ◌≤◌, length, get_or}
-use Rattle.s66_isa.specs.Members.{no_set}
-use Rattle.s66_facts.specs.Marked.{before_in}
-use Rattle.s66_facts.specs.Near.{IsNear}
+use Rattle.s66_isa.specs.{no_set}
+use Rattle.s66_facts.specs.{before_in, IsNear}
 use Rattle.s66_facts.proofs.near.near_each.Given as goal
 
 abbrev pub invariant-loop-position : goal.invariant-loop-position

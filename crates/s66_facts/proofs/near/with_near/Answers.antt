@@ -1,10 +1,8 @@
 use Rattle.std.proofs.Common.{ℕ, ◌+◌, ◌≡◌, ◌⊎◌, true, true≢false, sym, subst, arith, inl, inr, ◌∙◌}
 use Rattle.std.proofs.lemmas.Bool.{or_left, or_right, or_cases, cases_eq}
-use Rattle.s66_moments.specs.Facts.{IsNumber}
-use Rattle.s66_isa.specs.Lists.{has}
-use Rattle.s66_isa.specs.Members.{numbers_in}
-use Rattle.s66_facts.specs.Marked.{before_in}
-use Rattle.s66_facts.specs.Near.{IsCovered}
+use Rattle.s66_isa.specs.{has, numbers_in}
+use Rattle.s66_moments.specs.{IsNumber}
+use Rattle.s66_facts.specs.{before_in, IsCovered}
 use Rattle.s66_facts.proofs.NearEach.{covered-more, covered-self, marked-more}
 use Rattle.s66_facts.proofs.near.with_near.Goals as goal
 

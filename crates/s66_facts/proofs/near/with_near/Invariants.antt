@@ -1,9 +1,7 @@
 use Rattle.std.proofs.Common.{ℕ, ◌+◌, ◌≡◌, ◌<◌, ◌⊎◌, ◌||◌, true}
-use Rattle.s66_moments.specs.Facts.{IsNumber}
-use Rattle.s66_isa.specs.Lists.{has}
-use Rattle.s66_isa.specs.Members.{numbers_in}
-use Rattle.s66_facts.specs.Marked.{before_in}
-use Rattle.s66_facts.specs.Near.{IsCovered}
+use Rattle.s66_isa.specs.{has, numbers_in}
+use Rattle.s66_moments.specs.{IsNumber}
+use Rattle.s66_facts.specs.{before_in, IsCovered}
 use Rattle.s66_facts.proofs.near.with_near.Given as goal
 
 abbrev pub invariant-loop-distance : goal.invariant-loop-distance

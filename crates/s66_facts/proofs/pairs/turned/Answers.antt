@@ -1,7 +1,6 @@
 use Rattle.std.proofs.Common.{ℕ, ◌≡◌}
-use Rattle.s66_isa.specs.Lists.{has}
-use Rattle.s66_isa.specs.Members.{numbers_in}
-use Rattle.s66_facts.specs.Marked.{before_in}
+use Rattle.s66_isa.specs.{has, numbers_in}
+use Rattle.s66_facts.specs.{before_in}
 use Rattle.s66_facts.proofs.Each.{each-push}
 use Rattle.s66_facts.proofs.pairs.turned.Goals as goal
 

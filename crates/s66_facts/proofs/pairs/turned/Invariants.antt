@@ -1,7 +1,6 @@
 use Rattle.std.proofs.Common.{ℕ, ◌-◌, ◌≡◌, ◌≤◌, length, get_or}
-use Rattle.s66_isa.specs.Lists.{has}
-use Rattle.s66_isa.specs.Members.{numbers_in, no_set}
-use Rattle.s66_facts.specs.Marked.{before_in}
+use Rattle.s66_isa.specs.{has, numbers_in, no_set}
+use Rattle.s66_facts.specs.{before_in}
 use Rattle.s66_facts.proofs.pairs.turned.Given as goal
 
 abbrev pub invariant-loop-position : goal.invariant-loop-position

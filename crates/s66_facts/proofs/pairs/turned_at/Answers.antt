@@ -1,7 +1,7 @@
 use Rattle.std.proofs.Common.{◌+◌, ◌<◌, length, sym, subst, arith, ◌∙◌, ap}
+use Rattle.s66_isa.specs.{has}
 use Rattle.s66_facts.proofs.NearEach.{IsTurned, turned-none, turned-more, turned-past, turned-all, before-at}
 use Rattle.s66_facts.proofs.pairs.turned_at.Goals.{then-has, else-has}
-use Rattle.s66_isa.specs.Lists.{has}
 use Rattle.s66_facts.proofs.pairs.turned_at.Goals as goal
 
 pub loop-position-init : goal.loop-position-init

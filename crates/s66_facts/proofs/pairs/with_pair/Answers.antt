@@ -1,6 +1,6 @@
-use Rattle.std.proofs.Common.{◌≡◌, length, true, subst, arith, leb}
-use Rattle.std.proofs.lemmas.Bool.{and_from, le-leb}
-use Rattle.s66_facts.specs.Marked.{is_in}
+use Rattle.std.proofs.Common.{◌≡◌, length, true, subst, arith, leb, le-leb}
+use Rattle.std.proofs.lemmas.Bool.{and_from}
+use Rattle.s66_facts.specs.{is_in}
 use Rattle.s66_facts.proofs.Paired.{ArePaired, pair-is, paired-push}
 use Rattle.s66_facts.proofs.pairs.with_pair.Goals as goal
 

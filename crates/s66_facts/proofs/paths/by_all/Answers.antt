@@ -1,13 +1,10 @@
 use Rattle.std.proofs.Common.{ℕ, ◌≡◌, ◌==◌, not, sym, ap, subst, ◌∙◌}
 use Rattle.std.proofs.lemmas.Bool.{and_parts}
-use Rattle.s66_isa.specs.Table.{numbers}
-use Rattle.s66_moments.specs.Facts.{IsNumber}
-use Rattle.s66_facts.specs.declared.times.Times.{Times}
-use Rattle.s66_isa.specs.Members.{numbers_in}
-use Rattle.s66_facts.specs.Passes.{later_times, gathered, by_one, by_all}
-use Rattle.s66_facts.proofs.Latest.{gathered-next, gathered-end}
+use Rattle.s66_isa.specs.{numbers, numbers_in, has}
 use Rattle.s66_isa.proofs.Sets.{taken-there, taken-out}
-use Rattle.s66_isa.specs.Lists.{has}
+use Rattle.s66_moments.specs.{IsNumber}
+use Rattle.s66_facts.specs.{Times, later_times, gathered, by_one, by_all}
+use Rattle.s66_facts.proofs.Latest.{gathered-next, gathered-end}
 use Rattle.s66_facts.proofs.paths.by_all.Goals as goal
 
 pub loop-m-init : goal.loop-m-init

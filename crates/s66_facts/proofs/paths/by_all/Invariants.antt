@@ -1,9 +1,7 @@
 use Rattle.std.proofs.Common.{ℕ, ◌≡◌, true, length}
-use Rattle.s66_isa.specs.Table.{numbers}
-use Rattle.s66_moments.specs.Facts.{IsNumber}
-use Rattle.s66_isa.specs.Lists.{has}
-use Rattle.s66_facts.specs.Passes.{later_times, gathered, by_one, by_all}
-use Rattle.s66_isa.specs.Members.{numbers_in}
+use Rattle.s66_isa.specs.{numbers, has, numbers_in}
+use Rattle.s66_moments.specs.{IsNumber}
+use Rattle.s66_facts.specs.{later_times, gathered, by_one, by_all}
 use Rattle.s66_facts.proofs.paths.by_all.Given as goal
 
 abbrev pub invariant-loop-m : goal.invariant-loop-m

@@ -1,9 +1,6 @@
 use Rattle.std.proofs.Common.{◌≡◌, refl, sym, subst}
-use Rattle.s66_isa.specs.Lists.{has}
-use Rattle.s66_isa.specs.Members.{numbers_in}
-use Rattle.s66_facts.specs.Marked.{before_in}
-use Rattle.s66_facts.specs.Directions.{sooner, span_along}
-use Rattle.s66_facts.specs.Passes.{AreTimes, times_of}
+use Rattle.s66_isa.specs.{has, numbers_in}
+use Rattle.s66_facts.specs.{before_in, sooner, span_along, AreTimes, times_of}
 use Rattle.s66_facts.proofs.Covered.{near-by, sooner-number}
 use Rattle.s66_facts.proofs.Settled.{times-are}
 use Rattle.s66_facts.proofs.paths.times_of.Goals as goal

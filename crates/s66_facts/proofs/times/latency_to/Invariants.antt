@@ -1,6 +1,5 @@
 use Rattle.std.proofs.Common.{◌≡◌, cond, max, drop, ℕ}
-use Rattle.s66_isa.specs.Lists.{greatest}
-use Rattle.s66_isa.specs.Table.{Write, same_reg}
+use Rattle.s66_isa.specs.{greatest, Write, same_reg}
 use Rattle.s66_facts.proofs.times.latency_to.Given as goal
 
 abbrev pub invariant-loop-write : goal.invariant-loop-write

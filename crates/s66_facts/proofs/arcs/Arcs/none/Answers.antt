@@ -1,8 +1,7 @@
 use Rattle.std.proofs.Common.{ℕ, List, [], replicate, sym, subst}
-use Rattle.s66_isa.specs.declared.limits.TheConstants.{BLOCK_LIMIT}
-use Rattle.s66_moments.specs.declared.fact_line.KnownArc.{KnownArc}
-use Rattle.s66_facts.specs.declared.direction.Direction.TheVariants.{Forward, Backward}
-use Rattle.s66_facts.specs.Chained.{IsChained}
+use Rattle.s66_isa.specs.{BLOCK_LIMIT}
+use Rattle.s66_moments.specs.{KnownArc}
+use Rattle.s66_facts.specs.{Forward, Backward, IsChained}
 use Rattle.s66_facts.proofs.Chained.{chained-none}
 use Rattle.s66_facts.proofs.arcs.Arcs.none.Goals as goal
 

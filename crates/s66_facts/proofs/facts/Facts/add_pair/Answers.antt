@@ -1,11 +1,6 @@
 use Rattle.std.proofs.Common.{◌≡◌, true, refl, sym, subst, ◌∙◌}
-use Rattle.s66_moments.specs.declared.moment.Moment.TheVariants.{Origin, End}
-use Rattle.s66_moments.specs.declared.fact_line.FactLine.TheVariants.{Pair}
-use Rattle.s66_moments.specs.Facts.{IsNumber}
-use Rattle.s66_moments.specs.KnownFacts.{with_line}
-use Rattle.s66_facts.specs.declared.direction.Direction.TheVariants.{Forward, Backward}
-use Rattle.s66_facts.specs.Marked.{before_in}
-use Rattle.s66_facts.specs.BlockGround.{Ground, known_of}
+use Rattle.s66_moments.specs.{Origin, End, Pair, IsNumber, with_line}
+use Rattle.s66_facts.specs.{Forward, Backward, before_in, Ground, known_of}
 use Rattle.s66_facts.proofs.Settled.{settled-with_pair}
 use Rattle.s66_facts.proofs.PairTaken.{known-pair}
 use Rattle.s66_facts.proofs.facts.Facts.add_pair.Goals as goal

@@ -1,7 +1,6 @@
 use Rattle.std.proofs.Common.{ℕ, ◌<◌, Bool, length, sym, arith, ◌∙◌}
-use Rattle.s66_moments.specs.KnownFacts.{arcs_of}
-use Rattle.s66_moments.specs.Suppositions.{is_late_through}
-use Rattle.s66_facts.specs.BlockGround.{Ground, known_of}
+use Rattle.s66_moments.specs.{arcs_of, is_late_through}
+use Rattle.s66_facts.specs.{Ground, known_of}
 use Rattle.s66_facts.proofs.NumbersLeft.{some-here, some-later}
 use Rattle.s66_facts.proofs.facts.Facts.is_some_late.Goals as goal
 

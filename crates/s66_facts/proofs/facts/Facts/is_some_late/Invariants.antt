@@ -1,9 +1,7 @@
 use Rattle.std.proofs.Common.{◌≡◌, ◌+◌, ◌-◌, length}
-use Rattle.s66_isa.specs.Lists.{some_of, rising}
-use Rattle.s66_isa.specs.Table.{numbers}
-use Rattle.s66_moments.specs.KnownFacts.{arcs_of}
-use Rattle.s66_moments.specs.Suppositions.{is_late_through}
-use Rattle.s66_facts.specs.BlockGround.{known_of}
+use Rattle.s66_isa.specs.{some_of, rising, numbers}
+use Rattle.s66_moments.specs.{arcs_of, is_late_through}
+use Rattle.s66_facts.specs.{known_of}
 use Rattle.s66_facts.proofs.facts.Facts.is_some_late.Given as goal
 
 abbrev pub invariant-loop-position : goal.invariant-loop-position

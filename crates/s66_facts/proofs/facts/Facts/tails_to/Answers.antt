@@ -1,8 +1,6 @@
 use Rattle.std.proofs.Common.{◌≡◌, sym, subst, ◌∙◌}
 use Rattle.s66_moments.proofs.MoreArcs.{same_moment-true}
-use Rattle.s66_facts.specs.BlockGround.{Ground}
-use Rattle.s66_facts.specs.declared.direction.Direction.TheVariants.{Backward}
-use Rattle.s66_facts.specs.Settled.{AreAll}
+use Rattle.s66_facts.specs.{Ground, Backward, AreAll}
 use Rattle.s66_facts.proofs.facts.Facts.tails_to.Goals as goal
 
 pub returns-then-is_same_moment : goal.returns-then-is_same_moment

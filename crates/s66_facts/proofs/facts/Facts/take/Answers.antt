@@ -1,6 +1,6 @@
 use Rattle.std.proofs.Common.{refl}
-use Rattle.s66_moments.specs.declared.moment.Moment.TheVariants.{Origin, End}
-use Rattle.s66_facts.specs.declared.direction.Direction.TheVariants.{Forward, Backward}
+use Rattle.s66_moments.specs.{Origin, End}
+use Rattle.s66_facts.specs.{Forward, Backward}
 use Rattle.s66_facts.proofs.Settled.{settled-with_load}
 use Rattle.s66_facts.proofs.facts.Facts.take.Goals as goal
 

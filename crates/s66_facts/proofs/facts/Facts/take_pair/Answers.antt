@@ -1,9 +1,7 @@
 use Rattle.std.proofs.Common.{ℕ, ◌≡◌, ◌≢◌, true, false, sym, ◌∙◌}
-use Rattle.s66_moments.specs.KnownFacts.{is_pair_taken}
-use Rattle.s66_moments.specs.Facts.{IsNumber}
+use Rattle.s66_moments.specs.{is_pair_taken, IsNumber}
 use Rattle.s66_moments.proofs.KnownLines.{pair-tests}
-use Rattle.s66_facts.specs.Marked.{before_in}
-use Rattle.s66_facts.specs.BlockGround.{Ground, known_of}
+use Rattle.s66_facts.specs.{before_in, Ground, known_of}
 use Rattle.s66_facts.proofs.facts.Facts.take_pair.Goals as goal
 
 -- what its test says

@@ -1,8 +1,6 @@
 use Rattle.std.proofs.Common.{◌≡◌, List, true, sym, arith, subst}
-use Rattle.s66_moments.specs.declared.fact_line.KnownArc.{KnownArc}
-use Rattle.s66_moments.specs.KnownFacts.{is_arc_up}
-use Rattle.s66_facts.specs.Marked.{before_in}
-use Rattle.s66_facts.specs.BlockGround.{Ground, IsAcyclic}
+use Rattle.s66_moments.specs.{KnownArc, is_arc_up}
+use Rattle.s66_facts.specs.{before_in, Ground, IsAcyclic}
 use Rattle.s66_facts.proofs.LoadTaken.{load-ordered}
 use Rattle.s66_facts.proofs.graph.Graph.add_load.Goals as goal
 

@@ -1,10 +1,6 @@
 use Rattle.std.proofs.Common.{◌-◌, List, get_or, sym, ap, subst, ◌∙◌}
-use Rattle.s66_isa.specs.declared.set.Set.{Set}
-use Rattle.s66_isa.specs.Lists.{has}
-use Rattle.s66_isa.specs.Members.{numbers_in, no_set}
-use Rattle.s66_facts.specs.Marked.{before_in}
-use Rattle.s66_facts.specs.Near.{AreNear}
-use Rattle.s66_facts.specs.BlockGround.{Ground}
+use Rattle.s66_isa.specs.{Set, has, numbers_in, no_set}
+use Rattle.s66_facts.specs.{before_in, AreNear, Ground}
 use Rattle.s66_facts.proofs.PairTaken.{pair-taken}
 use Rattle.s66_facts.proofs.graph.Graph.add_pair.Goals as goal
 

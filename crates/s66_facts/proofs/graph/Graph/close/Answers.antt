@@ -1,15 +1,8 @@
 use Rattle.std.proofs.Common.{ℕ, ◌-◌, ◌≡◌, ◌≤◌, List, length, map, get_or, sym, ap, subst, arith, ◌∙◌}
-use Rattle.s66_isa.specs.declared.instr.Instr.{Instr}
-use Rattle.s66_isa.specs.declared.limits.TheConstants.{BLOCK_LIMIT}
-use Rattle.s66_isa.specs.Table.{row}
-use Rattle.s66_model.specs.Timing.{Problem}
-use Rattle.s66_moments.specs.KnownFacts.{known_first}
-use Rattle.s66_moments.specs.declared.fact_line.KnownArc.{KnownArc}
-use Rattle.s66_isa.specs.declared.set.Set.{Set}
-use Rattle.s66_isa.specs.Lists.{has}
-use Rattle.s66_isa.specs.Members.{numbers_in, no_set}
-use Rattle.s66_facts.specs.Marked.{before_in, IsClosedUpTo}
-use Rattle.s66_facts.specs.BlockGround.{IsAcyclic, known_of}
+use Rattle.s66_isa.specs.{Instr, BLOCK_LIMIT, row, Set, has, numbers_in, no_set}
+use Rattle.s66_model.specs.{Problem}
+use Rattle.s66_moments.specs.{known_first, KnownArc}
+use Rattle.s66_facts.specs.{before_in, IsClosedUpTo, IsAcyclic, known_of}
 use Rattle.s66_facts.proofs.FirstKnown.{before-is, first-known, first-ordered}
 use Rattle.s66_facts.proofs.NearEach.{turned-is, all-are}
 use Rattle.s66_facts.proofs.graph.Graph.close.Goals as goal

@@ -1,7 +1,5 @@
 use Rattle.std.proofs.Common.{sym, subst}
-use Rattle.s66_facts.specs.Marked.{before_in}
-use Rattle.s66_facts.specs.Directions.{sooner}
-use Rattle.s66_facts.specs.Near.{IsNear}
+use Rattle.s66_facts.specs.{before_in, sooner, IsNear}
 use Rattle.s66_facts.proofs.graph.Graph.near.Goals as goal
 
 pub returns-in-Backward : goal.returns-in-Backward

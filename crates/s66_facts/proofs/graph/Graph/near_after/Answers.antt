@@ -1,9 +1,7 @@
 use Rattle.std.proofs.Common.{◌-◌, get_or, ap, sym, subst, ◌∙◌}
-use Rattle.s66_moments.specs.Facts.{IsNumber}
-use Rattle.s66_isa.specs.Members.{no_set}
-use Rattle.s66_facts.specs.Marked.{before_in}
-use Rattle.s66_facts.specs.Near.{IsNear}
-use Rattle.s66_facts.specs.BlockGround.{Ground}
+use Rattle.s66_isa.specs.{no_set}
+use Rattle.s66_moments.specs.{IsNumber}
+use Rattle.s66_facts.specs.{before_in, IsNear, Ground}
 use Rattle.s66_facts.proofs.NearEach.{turned-near}
 use Rattle.s66_facts.proofs.graph.Graph.near_after.Goals as goal
 

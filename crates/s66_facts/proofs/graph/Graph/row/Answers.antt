@@ -1,6 +1,6 @@
 use Rattle.std.proofs.Common.{◌-◌, get_or, length, ap, arith, ◌∙◌}
-use Rattle.s66_model.specs.Timing.{row_at}
-use Rattle.s66_facts.specs.BlockGround.{Ground}
+use Rattle.s66_model.specs.{row_at}
+use Rattle.s66_facts.specs.{Ground}
 use Rattle.s66_facts.proofs.Latest.{row-kept}
 use Rattle.s66_facts.proofs.graph.Graph.row.Goals as goal
 

@@ -1,7 +1,6 @@
 use Rattle.std.proofs.Common.{true, arith, ap, sym, ◌∙◌}
-use Rattle.s66_moments.specs.Suppositions.{may_be_supposed}
-use Rattle.s66_facts.specs.BlockGround.{known_of}
-use Rattle.s66_facts.specs.Supposing.{Grounds}
+use Rattle.s66_moments.specs.{may_be_supposed}
+use Rattle.s66_facts.specs.{known_of, Grounds}
 use Rattle.s66_facts.proofs.Opened.{pair-loads, new-open}
 use Rattle.s66_facts.proofs.supposing.Supposing.suppose.Goals as goal
 

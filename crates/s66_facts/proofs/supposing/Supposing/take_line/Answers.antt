@@ -1,8 +1,6 @@
 use Rattle.std.proofs.Common.{◌+◌, ap, sym, arith, ◌∙◌}
-use Rattle.s66_moments.specs.declared.fact_line.FactLine.TheVariants.{Load}
-use Rattle.s66_moments.specs.KnownFacts.{is_taken}
-use Rattle.s66_facts.specs.BlockGround.{known_of}
-use Rattle.s66_facts.specs.Supposing.{Grounds}
+use Rattle.s66_moments.specs.{Load, is_taken}
+use Rattle.s66_facts.specs.{known_of, Grounds}
 use Rattle.s66_facts.proofs.Opened.{pair-loads, load-loads, open-more}
 use Rattle.s66_facts.proofs.supposing.Supposing.take_line.Goals as goal
 
