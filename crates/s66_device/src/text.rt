@@ -1,7 +1,7 @@
 //! Short texts with a number, as the lines of faults are.
 
 ghost use Rattle.std.specs.Prelude.{◌≡◌, ◌++◌, ◌<◌, ◌≤◌, codes, decimal, length, OnOk};
-ghost use Rattle.s66_device.specs.declared.limits.TheConstants.{FAULT_ROOM};
+ghost use Rattle.s66_device.specs.{FAULT_ROOM};
 
 use crate::limits::FAULT_ROOM;
 use arrayvec::ArrayString;

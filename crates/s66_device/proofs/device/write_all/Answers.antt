@@ -1,6 +1,6 @@
+use Rattle.std.specs.Io.KnownBytes.{Appends}
 use Rattle.std.proofs.Common.{arith, rules, take, drop}
 use Rattle.std.proofs.lemmas.List.{take_rest}
-use Rattle.std.specs.Io.KnownBytes.{Appends}
 use Rattle.s66_device.proofs.Bytes.{Appends-more}
 use Rattle.s66_device.proofs.device.write_all.Goals as goal
 
