@@ -1,16 +1,10 @@
 -- The codes from which an operand chooses, by the syntax of its operation.
 use Rattle.std.proofs.Common.{◌≡◌, ◌≤◌, ◌+◌, ◌==◌, ◌&&◌, ℕ, List, [], ◌∷◌, ◌++◌, Option, None, Some, IfSome, option_and_then, refl, inl, inr, arith, lit≤}
 use Rattle.std.proofs.lemmas.Option.{IfSome_then}
-use Rattle.s66_isa.specs.declared.instr.Instr.{Instr}
-use Rattle.s66_isa.specs.declared.reg.Bank.{Bank}
-use Rattle.s66_isa.specs.declared.reg.Bank.TheVariants.{A, B, X}
-use Rattle.s66_isa.specs.Lists.{Among}
+use Rattle.s66_isa.specs.{Instr, Bank, A, B, X, Among, instr}
 use Rattle.s66_isa.proofs.Lists.{rising-among}
-use Rattle.s66_isa.specs.Table.{instr}
-use Rattle.s66_line.specs.Operand.{boolean_operator, boolean, b_and_x, is_expression, shift, normalise, mask, arithmetic_code, arithmetic, population, terms_of, are_terms, set_code, set, decode}
-use Rattle.s66_line.specs.Choices.{at_most_one, choices}
-use Rattle.s66_line.specs.declared.operand.operation.Syntax.{Syntax}
-use Rattle.s66_line.specs.declared.operand.operation.Syntax.TheVariants.{Boolean, Shift, Normalise, Arithmetic, Mask, Population, Set}
+use Rattle.s66_line.specs.{boolean_operator, boolean, b_and_x, is_expression, shift, normalise, mask, arithmetic_code, arithmetic, population, terms_of, are_terms, set_code, set, decode, at_most_one}
+use Rattle.s66_line.specs.{choices, Syntax, Boolean, Shift, Normalise, Arithmetic, Mask, Population, Set}
 use Rattle.s66_line.proofs.Digits.{either, made, IsDigit, AreDigits, digit-few, two-few, b_and_x-few}
 use Rattle.s66_line.proofs.SetForms.{IsSetForm, set_form-few}
 

@@ -1,8 +1,7 @@
 -- Each code is spelled, with all digits.
 use Rattle.std.proofs.Common.{◌≡◌, ◌≤◌, ◌+◌, ◌-◌, ◌==◌, ◌&&◌, ℕ, true, false, map, Some, refl, arith, nat_le, le-leb, ne_eqb}
 use Rattle.std.proofs.lemmas.Bool.{and_from, or_left, or_right}
-use Rattle.s66_line.specs.Operand.{is_octal, is_letter_or_digit, is_near, instr_of}
-use Rattle.s66_line.specs.Spelling.{spellings}
+use Rattle.s66_line.specs.{is_octal, is_letter_or_digit, is_near, instr_of, spellings}
 
 octal-digit : (d : ℕ) → d ≤ 7 → is_octal (48 + d) ≡ true
 octal-digit d h = and_from (nat_le 48 (48 + d)) (nat_le (48 + d) 55) (le-leb 48 (48 + d) (omega arith)) (le-leb (48 + d) 55 (omega (arith, h)))

@@ -1,7 +1,8 @@
 -- Each digit that an operand spells is at most 7, as the number of a register is.
-use Rattle.std.proofs.Common.{◌≡◌, ◌≤◌, ◌+◌, ◌-◌, ◌==◌, ◌&&◌, ℕ, Bool, true, false, not, if◌then◌else◌, List, [], ◌∷◌, Option, None, Some, IfSome, option_and_then, is_some, arith, nat_le, leb-true, lit≤}
+use Rattle.std.proofs.Common.{◌≡◌, ◌≤◌, ◌+◌, ◌-◌, ◌==◌, ◌&&◌, ℕ, Bool, true, false, not, if◌then◌else◌, List, [], ◌∷◌, Option, None, Some, IfSome, option_and_then, is_some, arith, nat_le, leb-true}
+use Rattle.std.proofs.Common.{lit≤}
 use Rattle.std.proofs.lemmas.Bool.{cond_both, and_parts}
-use Rattle.s66_line.specs.Operand.{is_octal, digit_of, x_digit, b_digit, two_x, b_and_x}
+use Rattle.s66_line.specs.{is_octal, digit_of, x_digit, b_digit, two_x, b_and_x}
 
 -- OPTIONS
 

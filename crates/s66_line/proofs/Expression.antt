@@ -1,12 +1,9 @@
 -- An operand is an expression without registers exactly if its terms gather to none, for shifts and masks.
-use Rattle.std.proofs.Common.{◌≡◌, ℕ, Bool, true, false, List, [], ◌∷◌, ◌++◌, Option, None, Some, length, refl, sym, ap, arith, ◌∙◌, ◌==◌, nat_le, is_some, ◌||◌, ◌&&◌, if◌then◌else◌}
+use Rattle.std.proofs.Common.{◌≡◌, ℕ, Bool, true, false, List, [], ◌∷◌, ◌++◌, Option, None, Some, length, refl, sym, ap, arith, ◌∙◌, ◌==◌, nat_le, is_some, ◌||◌, ◌&&◌, if◌then◌else◌, true≢false}
 use Rattle.std.proofs.Math.Bool.{and-false}
-use Rattle.std.proofs.lemmas.Bool.{true≢false}
 use Rattle.std.proofs.lemmas.Bool.Decides.{nat_tests}
-use Rattle.s66_isa.specs.declared.reg.Bank.{Bank}
-use Rattle.s66_isa.specs.Lists.{every}
-use Rattle.s66_line.specs.Operand.{are_terms, some_constant, with_sign, registers_of, register_of, is_constant, is_expression, terms_of}
-use Rattle.s66_line.specs.Terms.{gather}
+use Rattle.s66_isa.specs.{Bank, every}
+use Rattle.s66_line.specs.{are_terms, some_constant, with_sign, registers_of, register_of, is_constant, is_expression, terms_of, gather}
 use Rattle.s66_line.proofs.Gathered.{register-no_constant}
 
 abbrev is_nil : List (Bool × Bank × ℕ) → Bool

@@ -1,12 +1,9 @@
 -- The terms of an operand gathered one after the other, and all at once.
 use Rattle.std.proofs.Common.{◌≡◌, ◌≤◌, ℕ, suc, Bool, true, false, List, [], ◌∷◌, ◌++◌, Option, None, Some, length, refl, ◌∙◌, arith, nat_lt, nat_le, is_some, ◌||◌, ◌&&◌, if◌then◌else◌, not}
-use Rattle.std.proofs.lemmas.Bool.{true≢false}
+use Rattle.std.proofs.Common.{true≢false, append-nil, option_and_then}
 use Rattle.std.proofs.lemmas.Bool.Decides.{nat_tests}
-use Rattle.std.proofs.lemmas.List.{append-nil}
-use Rattle.std.specs.Option.{option_and_then}
-use Rattle.s66_isa.specs.declared.reg.Bank.{Bank}
-use Rattle.s66_line.specs.Operand.{are_terms, some_constant, with_sign, registers_of, register_of, is_constant, is_constant_from, is_filled, is_symbol}
-use Rattle.s66_line.specs.Terms.{with_term, with_register}
+use Rattle.s66_isa.specs.{Bank}
+use Rattle.s66_line.specs.{are_terms, some_constant, with_sign, registers_of, register_of, is_constant, is_constant_from, is_filled, is_symbol, with_term, with_register}
 
 -- what these terms make after what was seen before them
 abbrev pub gathered_after : Bool × List (Bool × Bank × ℕ) → List (Bool × List ℕ) → Option (Bool × List (Bool × Bank × ℕ))

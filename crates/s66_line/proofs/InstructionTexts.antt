@@ -1,16 +1,12 @@
 -- The text of an instruction: its words are the operation and the operand that it is made of.
-use Rattle.std.proofs.Common.{◌≡◌, ◌≤◌, ◌<◌, ◌+◌, ◌-◌, ℕ, Bool, true, false, not, true≢false, List, [], ◌∷◌, ◌++◌, length, take, Option, None, Some, is_some, refl, sym, ap, ap₂, ◌∙◌, arith, length-append}
+use Rattle.std.proofs.Common.{◌≡◌, ◌≤◌, ◌<◌, ◌+◌, ◌-◌, ℕ, Bool, true, false, not, true≢false, List, [], ◌∷◌, ◌++◌, length, take, Option, None, Some, is_some, refl, sym, ap, ap₂, ◌∙◌, arith}
+use Rattle.std.proofs.Common.{length-append, length-take}
 use Rattle.std.proofs.lemmas.Bool.{and_parts, not-true}
-use Rattle.s66_isa.specs.declared.instr.Instr.{Instr}
-use Rattle.s66_isa.specs.Lists.{every}
-use Rattle.s66_line.specs.declared.limits.TheConstants.{TEXT_LIMIT}
-use Rattle.s66_line.specs.Fields.{is_blank, is_trailing, trim, upper, word, after_word, skip_blanks}
-use Rattle.s66_line.specs.Operand.{instr_of}
-use Rattle.s66_line.specs.InstructionText.{spelling, operation_in, operand_in, Spells, IsTextOf, IsInstruction}
-use Rattle.s66_line.specs.Characters.{characters_in, cut, rest_in, taken_in}
-use Rattle.s66_line.proofs.LineFields.{word-length, skip_blanks-no, spelling-fits, rest-fits, trim-length}
-use Rattle.std.proofs.lemmas.List.{length-take}
 use Rattle.std.proofs.Math.Nat.{min-le_right}
+use Rattle.s66_isa.specs.{Instr, every}
+use Rattle.s66_line.specs.{TEXT_LIMIT, is_blank, is_trailing, trim, upper, word, after_word, skip_blanks, instr_of, spelling, operation_in, operand_in, Spells, IsTextOf, IsInstruction, characters_in}
+use Rattle.s66_line.specs.{cut, rest_in, taken_in}
+use Rattle.s66_line.proofs.LineFields.{word-length, skip_blanks-no, spelling-fits, rest-fits, trim-length}
 use Rattle.s66_line.proofs.UpperCase.{length-upper, blank-kept, upper-twice}
 
 abbrev pub is_no_blank : ℕ → Bool

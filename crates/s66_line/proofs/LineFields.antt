@@ -1,15 +1,13 @@
 -- Words and blanks at the front of a line by their lengths, and a line without the end that passes.
-use Rattle.std.proofs.Common.{◌≡◌, ℕ, zero, suc, ◌+◌, ◌-◌, ◌≤◌, ◌<◌, Bool, true, false, not, cond, List, [], ◌∷◌, ◌++◌, length, take, drop, refl, sym, ap, ◌∙◌, arith, length-drop, get_or}
-use Rattle.std.proofs.lemmas.Bool.{eqb-true}
-use Rattle.std.proofs.Math.Seq.{take-suc}
+use Rattle.std.specs.List.{prefix_len}
+use Rattle.std.proofs.Common.{◌≡◌, ℕ, zero, suc, ◌+◌, ◌-◌, ◌≤◌, ◌<◌, Bool, true, false, not, cond, List, [], ◌∷◌, ◌++◌, length, take, drop, refl, sym, ap, ◌∙◌, arith, length-drop, get_or, eqb-true}
+use Rattle.std.proofs.Common.{take-suc, ◌&&◌, ◌||◌, ◌==◌, nat_le}
 use Rattle.std.proofs.Math.Dec.{eqb-zero-suc}
 use Rattle.std.proofs.Math.Bool.{and-true, and-false}
-use Rattle.std.specs.Prelude.{◌&&◌, ◌||◌, ◌==◌, nat_le}
-use Rattle.std.specs.List.{prefix_len}
-use Rattle.s66_isa.specs.Lists.{every}
-use Rattle.s66_line.specs.Fields.{is_blank, blanks, skip_blanks, word, after_word, trim, from_location, label_bytes}
 use Rattle.std.proofs.lemmas.List.{take_rest}
 use Rattle.std.proofs.lemmas.List.Sums.{prefix_len-le-length}
+use Rattle.s66_isa.specs.{every}
+use Rattle.s66_line.specs.{is_blank, blanks, skip_blanks, word, after_word, trim, from_location, label_bytes}
 
 pub skip_blanks-drop : (bytes : List ℕ) → skip_blanks bytes ≡ drop (prefix_len is_blank bytes) bytes
 skip_blanks-drop [] = refl

@@ -1,8 +1,6 @@
 -- A word that is too short or too long for the name of an operation, or for `NO`, is none.
 use Rattle.std.proofs.Common.{◌≡◌, ◌≤◌, ◌<◌, ℕ, false, List, ◌∷◌, length, None, refl, arith}
-use Rattle.s66_line.specs.Fields.{upper}
-use Rattle.s66_line.specs.Operand.{operation_of}
-use Rattle.s66_line.specs.Classes.{is_pad}
+use Rattle.s66_line.specs.{upper, operation_of, is_pad}
 
 pub is_pad_short : (word : List ℕ) → length word < 2 → false ≡ is_pad (upper word)
 is_pad_short (n ∷ o ∷ more) h = absurd (omega (arith, h))

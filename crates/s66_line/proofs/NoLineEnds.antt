@@ -1,16 +1,12 @@
 -- What spells an instruction holds no newline and no carriage return, so the text of one is one line.
-use Rattle.std.proofs.Common.{◌≡◌, ◌==◌, ◌&&◌, ◌||◌, ℕ, Bool, true, false, not, if◌then◌else◌, true≢false, List, [], ◌∷◌, ◌++◌, Option, None, Some, IfSome, is_some, option_and_then, ◌-◌, refl, sym, ap, ◌∙◌, subst, lit<, eqb-true}
+use Rattle.std.proofs.Common.{◌≡◌, ◌==◌, ◌&&◌, ◌||◌, ℕ, Bool, true, false, not, if◌then◌else◌, true≢false, List, [], ◌∷◌, ◌++◌, Option, None, Some, IfSome, is_some, option_and_then, ◌-◌, refl, sym}
+use Rattle.std.proofs.Common.{ap, ◌∙◌, subst, lit<, eqb-true}
 use Rattle.std.proofs.lemmas.Bool.{and_parts, and_from, or_parts, not-true}
 use Rattle.std.proofs.lemmas.Option.{IfSome_then}
-use Rattle.s66_isa.specs.declared.instr.Instr.{Instr}
-use Rattle.s66_isa.specs.declared.reg.Bank.{Bank}
-use Rattle.s66_isa.specs.Lists.{every}
-use Rattle.s66_isa.specs.Table.{instr}
-use Rattle.s66_line.specs.Fields.{is_newline, is_return, upper}
-use Rattle.s66_line.specs.InstructionText.{spelling, operation_in, operand_in, IsInstruction}
-use Rattle.s66_line.specs.Operand.{is_octal, x_digit, b_digit, may_stand, is_constant_from, register_of, is_filled, is_symbol, is_constant, is_sign, terms_from, terms_of, is_expression, boolean_operator, boolean, two_x, b_and_x, shift, normalise, mask, arithmetic_code, arithmetic, population, are_terms, set, set_form_of, syntax_of, decode, operation_of, instr_of}
-use Rattle.s66_line.specs.declared.operand.operation.Syntax.{Syntax}
-use Rattle.s66_line.specs.declared.operand.operation.Syntax.TheVariants.{Boolean, Shift, Normalise, Arithmetic, Mask, Population, Set}
+use Rattle.s66_isa.specs.{Instr, Bank, every, instr}
+use Rattle.s66_line.specs.{is_newline, is_return, upper, spelling, operation_in, operand_in, IsInstruction, is_octal, x_digit, b_digit, may_stand, is_constant_from, register_of, is_filled, is_symbol}
+use Rattle.s66_line.specs.{is_constant, is_sign, terms_from, terms_of, is_expression, boolean_operator, boolean, two_x, b_and_x, shift, normalise, mask, arithmetic_code, arithmetic, population}
+use Rattle.s66_line.specs.{are_terms, set, set_form_of, syntax_of, decode, operation_of, instr_of, Syntax, Boolean, Shift, Normalise, Arithmetic, Mask, Population, Set}
 use Rattle.s66_line.proofs.Digits.{either, made}
 use Rattle.s66_line.proofs.LineFields.{every-push}
 use Rattle.s66_line.proofs.Wholes.{is_inside, every-append}

@@ -1,19 +1,13 @@
 -- What an operation and its operand spell is an instruction of the table, with digits 0 to 7 (`operation_law`).
-use Rattle.std.proofs.Common.{Bool, ◌&&◌, not, leb, true≢false, ◌≡◌, ◌≤◌, ◌<◌, ◌+◌, ◌-◌, ◌==◌, ℕ, zero, suc, true, List, [], ◌∷◌, length, get_or, None, Some, IfSome, refl, sym, ap, ◌∙◌, subst, inl, inr, arith, eqb-true, lit<}
+use Rattle.std.proofs.Common.{Bool, ◌&&◌, not, leb, true≢false, ◌≡◌, ◌≤◌, ◌<◌, ◌+◌, ◌-◌, ◌==◌, ℕ, zero, suc, true, List, [], ◌∷◌, length, get_or, None, Some, IfSome, refl, sym, ap, ◌∙◌, subst, inl}
+use Rattle.std.proofs.Common.{inr, arith, eqb-true, lit<, leb-true, eq-eqb}
 use Rattle.std.proofs.lemmas.Option.{IfSome_then}
-use Rattle.std.proofs.lemmas.Bool.{and_parts, leb-true, eq-eqb}
-use Rattle.s66_isa.specs.declared.instr.Instr.{Instr}
-use Rattle.s66_isa.specs.declared.reg.Bank.TheVariants.{A, B, X}
-use Rattle.s66_isa.specs.Lists.{Among, every}
-use Rattle.s66_isa.specs.Table.{IsCode}
-use Rattle.s66_line.specs.Operand.{is_octal, syntax_of, decode, operation_of, instr_of}
-use Rattle.s66_line.specs.Choices.{choices, IsOfTheTable}
-use Rattle.s66_line.specs.Spelling.{operations, CanMean}
-use Rattle.s66_line.specs.declared.operand.operation.Syntax.{Syntax}
-use Rattle.s66_line.specs.declared.operand.operation.Syntax.TheVariants.{Boolean, Shift, Normalise, Arithmetic, Mask, Population, Set}
+use Rattle.std.proofs.lemmas.Bool.{and_parts}
+use Rattle.s66_isa.specs.{Instr, A, B, X, Among, every, IsCode}
+use Rattle.s66_isa.proofs.Lists.{every-each}
+use Rattle.s66_line.specs.{is_octal, syntax_of, decode, operation_of, instr_of, choices, IsOfTheTable, operations, CanMean, Syntax, Boolean, Shift, Normalise, Arithmetic, Mask, Population, Set}
 use Rattle.s66_line.proofs.Digits.{either, made, octal-few, octal-written}
 use Rattle.s66_line.proofs.Choices.{Chosen, chosen}
-use Rattle.s66_isa.proofs.Lists.{every-each}
 
 -- A ROW OF THE TABLE
 

@@ -1,8 +1,7 @@
 -- The forms of a set instruction are 0 to 7, and so are its digits.
 use Rattle.std.proofs.Common.{◌≡◌, subst, ◌≤◌, ◌==◌, ℕ, Bool, true, false, List, [], ◌∷◌, ◌++◌, Option, None, Some, IfSome, lit≤}
-use Rattle.s66_isa.specs.declared.reg.Bank.{Bank}
-use Rattle.s66_isa.specs.declared.reg.Bank.TheVariants.{A, B, X}
-use Rattle.s66_line.specs.Operand.{is_octal, with_sign, register_of, registers_of, some_constant, with_constant, without_constant, set_form_of}
+use Rattle.s66_isa.specs.{Bank, A, B, X}
+use Rattle.s66_line.specs.{is_octal, with_sign, register_of, registers_of, some_constant, with_constant, without_constant, set_form_of}
 use Rattle.s66_line.proofs.Digits.{either, octal-few}
 
 abbrev Few : List (Bool × Bank × ℕ) → Type 0

@@ -1,10 +1,9 @@
 -- A text cut at its signs, by the places where a term starts and ends.
-use Rattle.std.proofs.Common.{◌≡◌, Option, None, Some, ◌+◌, ◌-◌, ◌<◌, ◌≤◌, ◌==◌, ℕ, Bool, true, false, List, [], ◌∷◌, ◌++◌, length, get_or, take, drop, sym, ap, ◌∙◌, arith, if◌then◌else◌}
-use Rattle.std.proofs.lemmas.List.{at_drop_more, at_drop_all, take_more, get_or-drop, length-drop}
-use Rattle.std.specs.Option.{option_and_then}
-use Rattle.s66_isa.specs.declared.reg.Bank.{Bank}
-use Rattle.s66_line.specs.Operand.{terms_from, is_sign}
-use Rattle.s66_line.specs.Terms.{with_term}
+use Rattle.std.proofs.Common.{◌≡◌, Option, None, Some, ◌+◌, ◌-◌, ◌<◌, ◌≤◌, ◌==◌, ℕ, Bool, true, false, List, [], ◌∷◌, ◌++◌, length, get_or, take, drop, sym, ap, ◌∙◌, arith, if◌then◌else◌, get_or-drop}
+use Rattle.std.proofs.Common.{length-drop, option_and_then}
+use Rattle.std.proofs.lemmas.List.{at_drop_more, at_drop_all, take_more}
+use Rattle.s66_isa.specs.{Bank}
+use Rattle.s66_line.specs.{terms_from, is_sign, with_term}
 use Rattle.s66_line.proofs.Gathered.{gathered_after, gathered_after-cons, gathered_after-last}
 
 -- whether a constant, and the registers

@@ -1,9 +1,8 @@
 -- Where a string of characters ends, by how many bytes come before its mark.
-use Rattle.std.proofs.Common.{◌≡◌, ◌==◌, ◌+◌, ℕ, suc, true, false, not, cond, if◌then◌else◌, List, [], ◌∷◌, None, Some, length, nat_lt, refl, ap, ◌∙◌, inl, inr, arith}
-use Rattle.std.proofs.lemmas.Bool.{cases_lt, le-ltb, lt-ltb}
 use Rattle.std.specs.List.{prefix_len}
-use Rattle.std.specs.Option.{option_map}
-use Rattle.s66_line.specs.Characters.{through}
+use Rattle.std.proofs.Common.{◌≡◌, ◌==◌, ◌+◌, ℕ, suc, true, false, not, cond, if◌then◌else◌, List, [], ◌∷◌, None, Some, length, nat_lt, refl, ap, ◌∙◌, inl, inr, arith, le-ltb, lt-ltb, option_map}
+use Rattle.std.proofs.lemmas.Bool.{cases_lt}
+use Rattle.s66_line.specs.{through}
 
 within : (n count : ℕ) → option_map (λ k. suc k) (if nat_lt n count then Some (n + 1) else None) ≡ (if nat_lt (suc n) (suc count) then Some (suc n + 1) else None)
 within n count =

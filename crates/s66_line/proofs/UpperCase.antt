@@ -1,9 +1,10 @@
 -- What letters in upper case leave of a line: its comment, its comma, its fields up to their case.
-use Rattle.std.proofs.Common.{◌≡◌, ◌≤◌, ◌<◌, ◌-◌, ◌==◌, ◌&&◌, ◌||◌, ℕ, suc, Bool, true, false, if◌then◌else◌, List, [], ◌∷◌, ◌++◌, length, refl, sym, ap, ap₂, ◌∙◌, arith, eqb, nat_le, ne_eqb, leb-true, lit<}
+use Rattle.std.proofs.Common.{◌≡◌, ◌≤◌, ◌<◌, ◌-◌, ◌==◌, ◌&&◌, ◌||◌, ℕ, suc, Bool, true, false, if◌then◌else◌, List, [], ◌∷◌, ◌++◌, length, refl, sym, ap, ap₂, ◌∙◌, arith, eqb, nat_le, ne_eqb}
+use Rattle.std.proofs.Common.{leb-true, lit<}
 use Rattle.std.proofs.lemmas.Bool.{and_parts, and_left, cond_both, lt-leb}
-use Rattle.s66_isa.specs.Lists.{every}
-use Rattle.s66_line.specs.Fields.{is_blank, is_return, upper_byte, upper, trim, skip_blanks, word, after_word, blanks, is_comment, from_location, location, from_operation, operation, operand, label_bytes, continues}
-use Rattle.s66_line.specs.Classes.{is_located}
+use Rattle.s66_isa.specs.{every}
+use Rattle.s66_line.specs.{is_blank, is_return, upper_byte, upper, trim, skip_blanks, word, after_word, blanks, is_comment, from_location, location, from_operation, operation, operand, label_bytes}
+use Rattle.s66_line.specs.{continues, is_located}
 
 -- BYTES
 

@@ -1,9 +1,9 @@
 -- A text is its lines put together again, and a line its fields (`whole_law`).
-use Rattle.std.proofs.Common.{◌≡◌, ◌==◌, ℕ, Bool, true, false, not, List, [], ◌∷◌, ◌++◌, refl, sym, ap, ap₂, ◌∙◌, append_assoc, if◌then◌else◌}
-use Rattle.std.proofs.lemmas.Bool.{eqb-true, and_from, and_parts}
-use Rattle.std.proofs.lemmas.List.{append-nil}
-use Rattle.s66_isa.specs.Lists.{every}
-use Rattle.s66_line.specs.Fields.{last_line, lines_from, lines_of, is_newline, is_blank, skip_blanks, word, after_word, from_location, location, from_operation, operation, operand, label_bytes, with_newlines, AreLines, HasFields}
+use Rattle.std.proofs.Common.{◌≡◌, ◌==◌, ℕ, Bool, true, false, not, List, [], ◌∷◌, ◌++◌, refl, sym, ap, ap₂, ◌∙◌, append_assoc, if◌then◌else◌, eqb-true, append-nil}
+use Rattle.std.proofs.lemmas.Bool.{and_from, and_parts}
+use Rattle.s66_isa.specs.{every}
+use Rattle.s66_line.specs.{last_line, lines_from, lines_of, is_newline, is_blank, skip_blanks, word, after_word, from_location, location, from_operation, operation, operand, label_bytes}
+use Rattle.s66_line.specs.{with_newlines, AreLines, HasFields}
 use Rattle.s66_line.proofs.LineCuts.{lines_from-here, lines_from-later}
 use Rattle.s66_line.proofs.LineFields.{from_location-yes, from_location-no, label-yes, label-no}
 use Rattle.s66_line.proofs.InstructionTexts.{is_no_blank, no_blank-word}

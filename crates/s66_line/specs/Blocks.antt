@@ -1,7 +1,6 @@
 -- To be believed: a block, and what it shows by the numbers of its instructions, from 1.
 use Rattle.std.specs.Prelude.{ℕ, zero, suc, List, [], ◌∷◌, ◌++◌, map, Option, None, Some, slice_get}
-use Rattle.s66_isa.specs.declared.instr.Instr.{Instr}
-use Rattle.s66_isa.specs.Table.{instr_at}
+use Rattle.s66_isa.specs.{Instr, instr_at}
 use Rattle.s66_line.specs.Characters.{characters_in}
 use Rattle.s66_line.specs.Operand.{constant_of}
 use Rattle.s66_line.specs.InstructionText.{spelling, operation_in, operand_in, instr_in_text}

@@ -1,7 +1,6 @@
 -- To be believed: characters in an operand, which the assembler counts, or reads up to a mark, blanks among them: `10HREAD ERROR`,
 -- `=C/A B/`. So they may go on behind the blank at which the operand ends.
-use Rattle.std.specs.Prelude.{◌&&◌, ◌||◌, ◌==◌, not, if◌then◌else◌, ℕ, suc, ◌+◌, ◌*◌, ◌-◌, Bool, true, List, [], ◌∷◌, Option, None, Some, drop, min, nat_le, nat_lt, take}
-use Rattle.std.specs.Option.{option_map}
+use Rattle.std.specs.Prelude.{◌&&◌, ◌||◌, ◌==◌, not, if◌then◌else◌, ℕ, suc, ◌+◌, ◌*◌, ◌-◌, Bool, true, List, [], ◌∷◌, Option, None, Some, drop, min, nat_le, nat_lt, take, option_map}
 use Rattle.s66_line.specs.Fields.{after_word, is_blank, is_trailing, skip_blanks, trim, upper}
 use Rattle.s66_line.specs.InstructionText.{operand_in}
 use Rattle.s66_line.specs.declared.characters.Place.{Place}

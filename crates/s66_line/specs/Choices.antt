@@ -1,7 +1,6 @@
 -- Used by contracts within the crate alone: the octal codes from which an operand chooses, by the syntax of its operation.
 use Rattle.std.specs.Prelude.{ℕ, List, [], ◌∷◌, ◌++◌, Option, None, Some}
-use Rattle.s66_isa.specs.Lists.{Among, rising}
-use Rattle.s66_isa.specs.Table.{IsCode}
+use Rattle.s66_isa.specs.{Among, rising, IsCode}
 use Rattle.s66_line.specs.Operand.{set_code}
 use Rattle.s66_line.specs.declared.operand.operation.Syntax.{Syntax}
 use Rattle.s66_line.specs.declared.operand.operation.Syntax.TheVariants.{Boolean, Shift, Normalise, Arithmetic, Mask, Population, Set}

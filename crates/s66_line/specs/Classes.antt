@@ -1,7 +1,6 @@
 -- To be believed: the class of a line by itself: a comment, another line, one that is refused, a `NO`, or an instruction.
 use Rattle.std.specs.Prelude.{◌&&◌, ◌==◌, if◌then◌else◌, ℕ, Bool, true, false, List, [], ◌∷◌, Option, None, Some, nat_lt, length, is_some}
-use Rattle.s66_isa.specs.declared.instr.Instr.{Instr}
-use Rattle.s66_isa.specs.Table.{idle_instr}
+use Rattle.s66_isa.specs.{Instr, idle_instr}
 use Rattle.s66_line.specs.Fields.{body, is_comment, location, from_operation, continues}
 use Rattle.s66_line.specs.Characters.{runs_on}
 use Rattle.s66_line.specs.InstructionText.{Spells, operand_in, operation_in}

@@ -1,7 +1,6 @@
 -- To be believed: what the text of an instruction is.
 use Rattle.std.specs.Prelude.{◌≡◌, ◌≤◌, ℕ, List, [], ◌∷◌, ◌++◌, Option, None, Some, length}
-use Rattle.s66_isa.specs.declared.instr.Instr.{Instr}
-use Rattle.s66_isa.specs.Table.{idle_instr}
+use Rattle.s66_isa.specs.{Instr, idle_instr}
 use Rattle.s66_line.specs.declared.limits.TheConstants.{TEXT_LIMIT}
 use Rattle.s66_line.specs.Fields.{upper, word, skip_blanks, after_word}
 use Rattle.s66_line.specs.Operand.{instr_of}

@@ -1,8 +1,6 @@
 -- To be believed: what the letters of an operation can mean, as the manual lists it, and a spelling of each octal code.
 use Rattle.std.specs.Prelude.{◌≡◌, ◌≤◌, ◌+◌, ℕ, List, [], ◌∷◌, ◌++◌, codes}
-use Rattle.s66_isa.specs.declared.instr.Instr.{Instr}
-use Rattle.s66_isa.specs.Lists.{Among, rising}
-use Rattle.s66_isa.specs.Table.{instr}
+use Rattle.s66_isa.specs.{Instr, Among, rising, instr}
 
 -- the two letters of each operation, and the octal codes that it can mean
 abbrev pub operations : List (List ℕ × List ℕ)

@@ -1,6 +1,6 @@
 -- Used by contracts within the crate alone: what the terms of an operand make, taken together and one after the other.
 use Rattle.std.specs.Prelude.{◌&&◌, Bool, true, if◌then◌else◌, ℕ, List, [], ◌∷◌, ◌++◌, Option, None, Some, nat_lt, nat_le, length}
-use Rattle.s66_isa.specs.declared.reg.Bank.{Bank}
+use Rattle.s66_isa.specs.{Bank}
 use Rattle.s66_line.specs.Operand.{is_constant, register_of, are_terms, some_constant, registers_of}
 use Rattle.s66_line.specs.declared.operand.terms.Terms.{Terms}
 

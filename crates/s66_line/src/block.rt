@@ -2,7 +2,7 @@
 //! above take a `Block`.
 
 ghost use Rattle.std.specs.Prelude.{◌≡◌};
-ghost use Rattle.s66_line.specs.InstructionText.{instr_in_text, IsInstruction};
+ghost use Rattle.s66_line.specs.{instr_in_text, IsInstruction};
 
 use crate::entry::Entry;
 use crate::instruction_text::{instruction_in, spell, spell_whole};
@@ -22,7 +22,7 @@ pub struct Block<'a> {
 impl<'a> Model for Block<'a> {
     ghost use Rattle.std.specs.Prelude.{◌≤◌, ◌<◌, length};
     ghost use Rattle.s66_line.specs.Blocks.{Block};
-    ghost use Rattle.s66_isa.specs.declared.limits.TheConstants.{BLOCK_LIMIT};
+    ghost use Rattle.s66_isa.specs.{BLOCK_LIMIT};
 
     ghost Value = { Block };
 
@@ -49,16 +49,10 @@ fn entry_of(text: &[u8], line: u32) -> Entry<'_>
 }
 
 impl<'a> Block<'a> {
-    ghost use Rattle.std.specs.Prelude.{ℕ, List, ◌≡◌, ◌*◌, ◌≤◌, ◌<◌, Some, IfOk, length, map};
-    ghost use Rattle.std.specs.declared.vec.Vec.{Vec};
+    ghost use Rattle.std.specs.Prelude.{ℕ, List, ◌≡◌, ◌*◌, ◌≤◌, ◌<◌, Some, IfOk, length, map, Vec};
     ghost use Rattle.std.specs.declared.alloc.Global.{Global};
-    ghost use Rattle.s66_isa.specs.Lists.{weigh, Among};
-    ghost use Rattle.s66_isa.specs.Table.{instr_at, parcels_of};
-    ghost use Rattle.s66_isa.specs.declared.instr.Instr.{Instr};
-    ghost use Rattle.s66_line.specs.InstructionText.{Spells, IsTextOf, IsInstruction};
-    ghost use Rattle.s66_line.specs.Blocks.{instrs_of, entry_at, line_of, bytes_of, text_of, whole_text_of, block_of_texts};
-    ghost use Rattle.s66_isa.specs.declared.limits.TheConstants.{BLOCK_LIMIT};
-    ghost use Rattle.s66_line.specs.declared.limits.TheConstants.{TEXT_LIMIT};
+    ghost use Rattle.s66_isa.specs.{weigh, Among, instr_at, parcels_of, Instr, BLOCK_LIMIT};
+    ghost use Rattle.s66_line.specs.{Spells, IsTextOf, IsInstruction, instrs_of, entry_at, line_of, bytes_of, text_of, whole_text_of, block_of_texts, TEXT_LIMIT};
 
     pub fn new(label: &'a [u8], entries: Vec<Entry<'a>>) -> Block<'a>
         requires some { 0 < length entries.items }

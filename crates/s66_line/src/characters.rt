@@ -3,10 +3,8 @@
 
 ghost use Rattle.std.specs.Prelude.{◌≡◌, ◌≤◌, ◌+◌, ◌*◌, ◌==◌, length, min, not};
 ghost use Rattle.std.specs.List.{prefix_len};
-ghost use Rattle.s66_line.specs.Characters.{after_at_term, after_in_count, after_in_term, begins_blank, characters_in, ends_term, is_decimal, justifies, place_after, runs_on, still_taken, through};
-ghost use Rattle.s66_line.specs.Fields.{upper};
-ghost use Rattle.s66_line.specs.declared.characters.Place.TheVariants.{AtTerm};
-ghost use Rattle.s66_line.specs.declared.limits.TheConstants.{TEXT_LIMIT};
+ghost use Rattle.s66_line.specs.{after_at_term, after_in_count, after_in_term, begins_blank, characters_in, ends_term, is_decimal, justifies, place_after, runs_on, still_taken, through, upper, AtTerm};
+ghost use Rattle.s66_line.specs.{TEXT_LIMIT};
 
 use crate::fields::{is_blank_byte, operand_and_rest, without_trailing};
 use crate::instruction_text::upper_case;
@@ -99,7 +97,7 @@ fn after_in_count(count: u8, byte: u8) -> Place
 
 impl Place {
     ghost use Rattle.std.specs.Prelude.{◌≡◌};
-    ghost use Rattle.s66_line.specs.Characters.{after_byte_at};
+    ghost use Rattle.s66_line.specs.{after_byte_at};
 
     /// The place after a byte in upper case.
     fn after(&self, byte: u8) -> Place

@@ -2,9 +2,7 @@
 //! `s66_source`.
 
 ghost use Rattle.std.specs.Prelude.{◌≡◌, ◌≤◌, true, length};
-ghost use Rattle.s66_line.specs.Fields.{upper, body, from_operation, label_bytes};
-ghost use Rattle.s66_line.specs.Classes.{IsSpelled, class_of, by_operation, is_code, is_located, is_pad};
-ghost use Rattle.s66_line.specs.declared.limits.TheConstants.{LINE_BYTES_LIMIT, TEXT_LIMIT};
+ghost use Rattle.s66_line.specs.{upper, body, from_operation, label_bytes, IsSpelled, class_of, by_operation, is_code, is_located, is_pad, LINE_BYTES_LIMIT, TEXT_LIMIT};
 
 use crate::characters::runs_on;
 use crate::fields::{
@@ -31,7 +29,7 @@ pub enum Class {
 
 impl Class {
     ghost use Rattle.std.specs.Prelude.{◌≡◌};
-    ghost use Rattle.s66_line.specs.Classes.{is_code};
+    ghost use Rattle.s66_line.specs.{is_code};
 
     /// Whether it is an instruction or a `NO`.
     pub fn is_code(&self) -> bool

@@ -2,7 +2,8 @@
 
 ghost use Rattle.std.specs.Prelude.{◌≡◌, ◌≤◌, ◌<◌, ◌+◌, ◌-◌, ◌==◌, ◌||◌, nat_le, not, length};
 ghost use Rattle.std.specs.List.{prefix_len};
-ghost use Rattle.s66_line.specs.Fields.{is_blank, is_trailing, trim, upper_byte, body, skip_blanks, word, after_word, blanks, is_comment, from_location, location, from_operation, from_operand, label_bytes, continues};
+ghost use Rattle.s66_line.specs.{is_blank, is_trailing, trim, upper_byte, body, skip_blanks, word, after_word, blanks, is_comment, from_location, location, from_operation, from_operand, label_bytes};
+ghost use Rattle.s66_line.specs.{continues};
 
 /// The fields of a line that is no comment; a field that is not there is empty.
 #[derive(Clone, Copy)]

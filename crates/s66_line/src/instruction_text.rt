@@ -1,11 +1,7 @@
 //! The text of an instruction, in upper case with one blank: made of a line, and read back.
 
 ghost use Rattle.std.specs.Prelude.{◌≡◌, ◌≤◌, ◌+◌, ◌++◌, ◌↔◌, true, length, IfSome, IfNone};
-ghost use Rattle.s66_line.specs.Characters.{characters_in};
-ghost use Rattle.s66_line.specs.Fields.{upper};
-ghost use Rattle.s66_line.specs.Operand.{instr_of};
-ghost use Rattle.s66_line.specs.InstructionText.{spelling, operation_in, operand_in, IsTextOf, IsInstruction};
-ghost use Rattle.s66_line.specs.declared.limits.TheConstants.{TEXT_LIMIT};
+ghost use Rattle.s66_line.specs.{characters_in, upper, instr_of, spelling, operation_in, operand_in, IsTextOf, IsInstruction, TEXT_LIMIT};
 
 use crate::characters::characters_in;
 use crate::fields::{operation_and_operand, upper_case_byte};

@@ -1,15 +1,9 @@
 //! Laws and worked examples of fields, spellings, constants and characters of operands.
 
-ghost use Rattle.std.specs.Prelude.{◌≡◌, ◌≤◌, ℕ, List, ◌∷◌, ◌++◌, Some, Bool, true, false, map, codes, [], not, ◌==◌, replicate};
-ghost use Rattle.s66_line.specs.Characters.{characters_in, runs_on};
-ghost use Rattle.std.specs.List.{filter};
-ghost use Rattle.s66_isa.specs.declared.instr.Instr.{Instr};
-ghost use Rattle.s66_isa.specs.declared.reg.Bank.{Bank};
-ghost use Rattle.s66_isa.specs.Lists.{Among, rising};
-ghost use Rattle.s66_line.specs.Fields.{is_blank, upper_byte, upper, body, lines_of, AreLines, HasFields};
-ghost use Rattle.s66_line.specs.InstructionText.{IsInstruction};
-ghost use Rattle.s66_line.specs.Operand.{register_of, is_constant, constant_of, instr_of, set_form_of};
-ghost use Rattle.s66_line.specs.Spelling.{CanMean, spellings, all_codes};
+ghost use Rattle.std.specs.Prelude.{◌≡◌, ◌≤◌, ℕ, List, ◌∷◌, ◌++◌, Some, Bool, true, false, map, codes, [], not, ◌==◌, replicate, filter};
+ghost use Rattle.s66_isa.specs.{Instr, Bank, Among, rising};
+ghost use Rattle.s66_line.specs.{characters_in, runs_on, is_blank, upper_byte, upper, body, lines_of, AreLines, HasFields, IsInstruction, register_of, is_constant, constant_of, instr_of, set_form_of};
+ghost use Rattle.s66_line.specs.{CanMean, spellings, all_codes};
 
 /// A text is its lines with their newlines, and a line its fields with blanks between, and a remark: nothing is lost.
 pub fn whole_law()

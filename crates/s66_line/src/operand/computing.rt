@@ -1,7 +1,7 @@
 //! The operands of shift, mask, Boolean, arithmetic, normalise and population operations.
 
 ghost use Rattle.std.specs.Prelude.{◌≡◌, ◌≤◌, IfSome};
-ghost use Rattle.s66_line.specs.Operand.{is_octal, x_digit, b_digit, two_x, boolean_operator, boolean, b_and_x, shift, normalise, mask, arithmetic_code, arithmetic, population};
+ghost use Rattle.s66_line.specs.{is_octal, x_digit, b_digit, two_x, boolean_operator, boolean, b_and_x, shift, normalise, mask, arithmetic_code, arithmetic, population};
 
 use crate::operand::encoding::Encoding;
 use crate::operand::terms::is_expression;

@@ -1,7 +1,8 @@
 //! The octal code and the digits i, j and k that an operand chooses.
 
 ghost use Rattle.std.specs.Prelude.{◌≡◌, ◌≤◌};
-ghost use Rattle.s66_isa.specs.Table.{IsCode, instr};
+ghost use Rattle.s66_isa.specs.{IsCode, instr};
+ghost use Rattle.s66_isa.specs.Table.{Instr};
 
 use s66_isa::{Instr, Op};
 use std::marker::Model;
@@ -17,8 +18,6 @@ pub(crate) struct Encoding {
 }
 
 impl Model for Encoding {
-    ghost use Rattle.s66_isa.specs.Table.{Instr, instr};
-
     ghost Value = { Instr };
 
     ghost view = { λ e. instr e.code e.i e.j e.k };

@@ -2,9 +2,7 @@
 //! (`decode`).
 
 ghost use Rattle.std.specs.Prelude.{◌≡◌, ◌≤◌, IfSome, is_some};
-ghost use Rattle.s66_line.specs.Choices.{IsOfTheTable};
-ghost use Rattle.s66_line.specs.Fields.{upper};
-ghost use Rattle.s66_line.specs.Operand.{syntax_of, decode, operation_of};
+ghost use Rattle.s66_line.specs.{IsOfTheTable, upper, syntax_of, decode, operation_of};
 
 use crate::fields::upper_case_byte;
 use crate::operand::computing::{

@@ -1,7 +1,7 @@
 //! The operands of the set operations `SA`, `SB` and `SX`: a sum of registers and constants, which chooses one of the eight forms.
 
 ghost use Rattle.std.specs.Prelude.{◌≡◌, ◌≤◌, IfSome};
-ghost use Rattle.s66_line.specs.Operand.{with_constant, without_constant, set_code, set};
+ghost use Rattle.s66_line.specs.{with_constant, without_constant, set_code, set};
 
 use crate::operand::encoding::Encoding;
 use crate::operand::terms::terms_of;

@@ -1,10 +1,8 @@
 //! The terms of such a sum: which are registers, and which are constants.
 
-ghost use Rattle.std.specs.Prelude.{◌≡◌, ◌≤◌, [], IfSome};
+ghost use Rattle.std.specs.Prelude.{◌≡◌, ◌≤◌, [], IfSome, option_map};
 ghost use Rattle.arrayvec.specs.ArrayVec.{array_vec_len};
-ghost use Rattle.std.specs.Option.{option_map};
-ghost use Rattle.s66_line.specs.Operand.{is_near, near_front, may_stand, is_constant_from, register_of, is_symbol, is_constant, is_expression, is_sign, terms_from, terms_of};
-ghost use Rattle.s66_line.specs.Terms.{gather, terms_in, with_term};
+ghost use Rattle.s66_line.specs.{is_near, near_front, may_stand, is_constant_from, register_of, is_symbol, is_constant, is_expression, is_sign, terms_from, terms_of, gather, terms_in, with_term};
 
 use arrayvec::ArrayVec;
 use s66_isa::Bank;

@@ -1,6 +1,5 @@
 use Rattle.std.proofs.Common.{◌≡◌, drop}
-use Rattle.s66_line.specs.Characters.{place_after}
-use Rattle.s66_line.specs.declared.characters.Place.TheVariants.{AtTerm}
+use Rattle.s66_line.specs.{place_after, AtTerm}
 use Rattle.s66_line.proofs.characters.place_after.Given as goal
 
 abbrev pub invariant-loop-byte : goal.invariant-loop-byte

@@ -1,9 +1,8 @@
-use Rattle.std.proofs.Common.{◌∙◌, ◌-◌, sym, arith, get_or, eq-eqb}
-use Rattle.std.proofs.lemmas.Bool.{ne_eqb}
-use Rattle.s66_line.specs.Fields.{is_return}
+use Rattle.std.proofs.Common.{◌∙◌, ◌-◌, sym, arith, get_or, eq-eqb, ne_eqb}
+use Rattle.s66_line.specs.{is_return}
 use Rattle.s66_line.proofs.LineFields.{trim-cut, trim-none, trim-end}
-use Rattle.s66_line.proofs.fields.body_of.Goals as goal
 use Rattle.s66_line.proofs.fields.body_of.Goals.{then-loop-end-test+else-line-end-eq13, else-loop-end-test}
+use Rattle.s66_line.proofs.fields.body_of.Goals as goal
 
 pub loop-end-preserved : goal.loop-end-preserved
 loop-end-preserved c =

@@ -1,5 +1,5 @@
 use Rattle.std.proofs.Common.{◌≡◌, ◌≤◌, take, length}
-use Rattle.s66_line.specs.Fields.{is_return, trim}
+use Rattle.s66_line.specs.{is_return, trim}
 use Rattle.s66_line.proofs.fields.body_of.Given as goal
 
 -- what was cut off so far are carriage returns

@@ -1,8 +1,8 @@
 use Rattle.std.proofs.Common.{◌∙◌, sym, arith}
-use Rattle.s66_line.specs.Fields.{is_trailing}
+use Rattle.s66_line.specs.{is_trailing}
 use Rattle.s66_line.proofs.LineFields.{trim-cut, trim-none, trim-end}
-use Rattle.s66_line.proofs.fields.without_trailing.Goals as goal
 use Rattle.s66_line.proofs.fields.without_trailing.Goals.{then-loop-end-test+else-is_trailing_byte, else-loop-end-test}
+use Rattle.s66_line.proofs.fields.without_trailing.Goals as goal
 
 pub loop-end-preserved : goal.loop-end-preserved
 loop-end-preserved c =

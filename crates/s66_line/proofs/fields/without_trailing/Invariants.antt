@@ -1,5 +1,5 @@
 use Rattle.std.proofs.Common.{◌≡◌, ◌≤◌, take, length}
-use Rattle.s66_line.specs.Fields.{is_trailing, trim}
+use Rattle.s66_line.specs.{is_trailing, trim}
 use Rattle.s66_line.proofs.fields.without_trailing.Given as goal
 
 -- what was cut off so far are blanks and carriage returns

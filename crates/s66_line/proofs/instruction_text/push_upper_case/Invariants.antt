@@ -1,5 +1,5 @@
 use Rattle.std.proofs.Common.{◌≡◌, ◌++◌, ◌+◌, drop, length}
-use Rattle.s66_line.specs.Fields.{upper}
+use Rattle.s66_line.specs.{upper}
 use Rattle.s66_line.proofs.instruction_text.push_upper_case.Given as goal
 
 -- the letters so far, and then those of the rest, are those of all

@@ -1,4 +1,4 @@
-use Rattle.s66_line.specs.Fields.{body}
+use Rattle.s66_line.specs.{body}
 use Rattle.s66_line.proofs.Wholes.{AreLines-lines_of, HasFields-all}
 use Rattle.s66_line.proofs.laws.whole_law.Goals as goal
 

@@ -1,5 +1,5 @@
 use Rattle.std.proofs.Common.{◌∙◌, ap}
-use Rattle.s66_line.specs.Blocks.{Entry}
+use Rattle.s66_line.specs.{Entry}
 use Rattle.s66_line.proofs.BlockEntries.{instr_at-entry}
 use Rattle.s66_line.proofs.block.Block.instr.Goals as goal
 

@@ -1,8 +1,6 @@
-use Rattle.std.proofs.Common.{◌≡◌, ◌<◌, ℕ, zero, suc, List, [], ◌∷◌, length, map, get_or, ap, sym, subst, arith, inl, inr}
-use Rattle.std.specs.declared.vec.Vec.{Vec}
-use Rattle.std.specs.declared.alloc.Global.{Global}
-use Rattle.s66_isa.specs.Lists.{Among}
-use Rattle.s66_line.specs.InstructionText.{IsInstruction}
+use Rattle.std.proofs.Common.{◌≡◌, ◌<◌, ℕ, zero, suc, List, [], ◌∷◌, length, map, get_or, ap, sym, subst, arith, inl, inr, Vec, Global}
+use Rattle.s66_isa.specs.{Among}
+use Rattle.s66_line.specs.{IsInstruction}
 use Rattle.s66_line.proofs.block.Block.of.Goals as goal
 
 -- the bytes of an item are among those of the list

@@ -1,8 +1,6 @@
 -- What was made is the front of the entries, and those of the texts after it still come.
-use Rattle.std.proofs.Common.{◌≡◌, ◌++◌, ℕ, suc, length, map, drop}
-use Rattle.std.specs.declared.vec.Vec.{Vec}
-use Rattle.std.specs.declared.alloc.Global.{Global}
-use Rattle.s66_line.specs.Blocks.{entries_of_texts}
+use Rattle.std.proofs.Common.{◌≡◌, ◌++◌, ℕ, suc, length, map, drop, Vec, Global}
+use Rattle.s66_line.specs.{entries_of_texts}
 use Rattle.s66_line.proofs.block.Block.of.Given as goal
 
 abbrev pub invariant-loop-position : goal.invariant-loop-position

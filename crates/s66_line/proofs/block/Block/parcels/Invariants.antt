@@ -1,8 +1,6 @@
 use Rattle.std.proofs.Common.{◌≡◌, ◌≤◌, ◌+◌, ◌*◌, drop, map}
-use Rattle.s66_isa.specs.Lists.{weigh}
-use Rattle.s66_isa.specs.Table.{parcels_of}
-use Rattle.s66_isa.specs.declared.instr.Instr.{Instr}
-use Rattle.s66_line.specs.Blocks.{Entry, instrs_of}
+use Rattle.s66_isa.specs.{weigh, parcels_of, Instr}
+use Rattle.s66_line.specs.{Entry, instrs_of}
 use Rattle.s66_line.proofs.block.Block.parcels.Given as goal
 
 -- the parcels so far, and then those of the rest, are those of all

@@ -1,5 +1,5 @@
 use Rattle.std.proofs.Common.{◌∙◌}
-use Rattle.s66_line.specs.Terms.{terms_in}
+use Rattle.s66_line.specs.{terms_in}
 use Rattle.s66_line.proofs.Expression.{expression-none, expression-some}
 use Rattle.s66_line.proofs.operand.terms.is_expression.Goals as goal
 

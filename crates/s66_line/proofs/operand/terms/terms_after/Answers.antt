@@ -1,9 +1,9 @@
 use Rattle.std.proofs.Common.{◌∙◌, sym, ap, arith}
-use Rattle.s66_line.specs.Terms.{terms_in}
+use Rattle.s66_line.specs.{terms_in}
 use Rattle.s66_line.proofs.SignCuts.{cut-none, cut-some, cut-last, terms_from-other}
 use Rattle.s66_line.proofs.Gathered.{gathered_after}
-use Rattle.s66_line.proofs.operand.terms.terms_after.Goals as goal
 use Rattle.s66_line.proofs.operand.terms.terms_after.Goals.{then-is_sign+in_ok-terms, else-is_sign}
+use Rattle.s66_line.proofs.operand.terms.terms_after.Goals as goal
 
 pub returns-in_err-terms : goal.returns-in_err-terms
 returns-in_err-terms c =

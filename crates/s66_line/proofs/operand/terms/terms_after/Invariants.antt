@@ -1,6 +1,5 @@
 use Rattle.std.proofs.Common.{◌≡◌, ◌-◌, ◌≤◌, [], take, drop, length}
-use Rattle.s66_line.specs.Operand.{terms_from}
-use Rattle.s66_line.specs.Terms.{gather, terms_in}
+use Rattle.s66_line.specs.{terms_from, gather, terms_in}
 use Rattle.s66_line.proofs.Gathered.{gathered_after}
 use Rattle.s66_line.proofs.operand.terms.terms_after.Given as goal
 
