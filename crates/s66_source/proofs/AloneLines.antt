@@ -1,13 +1,8 @@
 -- A line that is left alone is of no block.
-use Rattle.std.proofs.Common.{◌≡◌, ◌&&◌, ◌||◌, ℕ, zero, suc, Bool, true, false, true≢false, if◌then◌else◌, List, [], ◌∷◌, Some, refl, sym, ap, ap₂, ◌∙◌}
-use Rattle.std.specs.Prelude.{slice_get}
-use Rattle.s66_line.specs.Classes.{is_code, is_instruction, ends_run}
-use Rattle.s66_line.specs.declared.class.Class.{Class}
-use Rattle.s66_line.specs.declared.class.Class.TheVariants.{Comment, Other, Refused, Pad, Instruction}
-use Rattle.s66_source.specs.LeftAlone.{Flagged, Reading, class_at, flagged_lines}
-use Rattle.s66_source.specs.Replaced.{begun, owner}
-use Rattle.s66_source.specs.Roles.{has_block, is_comment_class, is_leading, is_pad_class}
-use Rattle.s66_source.specs.Source.{Line, blocks_of, classed_lines, classes_from, label_after, label_at, place_after, place_at, run_after, run_at}
+use Rattle.std.proofs.Common.{◌≡◌, ◌&&◌, ◌||◌, ℕ, zero, suc, Bool, true, false, true≢false, if◌then◌else◌, List, [], ◌∷◌, Some, refl, sym, ap, ap₂, ◌∙◌, slice_get}
+use Rattle.s66_line.specs.{is_code, is_instruction, ends_run, Class, Comment, Other, Refused, Pad, Instruction}
+use Rattle.s66_source.specs.{Flagged, Reading, class_at, flagged_lines, begun, owner, has_block, is_comment_class, is_leading, is_pad_class, Line, blocks_of, classed_lines, classes_from, label_after}
+use Rattle.s66_source.specs.{label_at, place_after, place_at, run_after, run_at}
 use Rattle.s66_source.proofs.LineLaw.{no-note_in}
 
 abbrev IsOther : Line → Flagged → Type 0

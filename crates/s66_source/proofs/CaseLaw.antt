@@ -1,16 +1,11 @@
 -- Letters in upper case leave the classes of lines, and so the blocks of a source, as they are.
 use Rattle.std.proofs.Common.{◌≡◌, ◌==◌, ℕ, suc, Bool, true, false, cond, if◌then◌else◌, List, [], ◌∷◌, ◌++◌, map, refl, sym, ap, ap₂, ◌∙◌, lit<, Option, None, Some}
-use Rattle.s66_line.specs.Fields.{last_line, lines_from, lines_of, upper, body, from_operation, label_bytes}
-use Rattle.s66_source.specs.LeftAlone.{Reading, Flagged, at_first, class_at, flagged_from, flagged_lines, redefined_by}
-use Rattle.s66_source.specs.Redefinitions.{nothing_redefined, redefined_in}
-use Rattle.s66_source.proofs.RedefinedCase.{redefined-upper_lines}
-use Rattle.s66_source.specs.Source.{Line, run_at, run_after, place_at, place_after, label_at, label_after, classes_from, classed_lines, refusal_at, refusal, instructions, begins_block, put_before, parts_of, entry_of, label_in, block_of, blocks_of, unless_refused, source_of}
-use Rattle.s66_line.specs.Blocks.{Entry, Block}
-use Rattle.s66_line.specs.Classes.{is_instruction, is_code, begins_run, ends_run, instr_in}
-use Rattle.s66_source.specs.UpperRead.{upper_entry, upper_block, upper_read}
-use Rattle.s66_source.specs.declared.error.SourceError.{SourceError}
-use Rattle.s66_line.specs.declared.class.Class.{Class}
+use Rattle.s66_line.specs.{last_line, lines_from, lines_of, upper, body, from_operation, label_bytes, Entry, Block, is_instruction, is_code, begins_run, ends_run, instr_in, Class}
 use Rattle.s66_line.proofs.UpperCase.{kept, upper-append, length-upper, upper-trim, upper-if, upper-from_operation, upper-label_bytes}
+use Rattle.s66_source.specs.{Reading, Flagged, at_first, class_at, flagged_from, flagged_lines, redefined_by, nothing_redefined, redefined_in, Line, run_at, run_after, place_at, place_after, label_at}
+use Rattle.s66_source.specs.{label_after, classes_from, classed_lines, refusal_at, refusal, instructions, begins_block, put_before, parts_of, entry_of, label_in, block_of, blocks_of, unless_refused}
+use Rattle.s66_source.specs.{source_of, upper_entry, upper_block, upper_read, SourceError}
+use Rattle.s66_source.proofs.RedefinedCase.{redefined-upper_lines}
 use Rattle.s66_source.proofs.UpperSwitches.{upper_flagged, same-class_at, upper-flagged}
 
 -- LINES

@@ -1,14 +1,10 @@
 -- Characters that go on behind an operand's blank, in upper case, and without what ends their line.
-use Rattle.std.proofs.Common.{◌≡◌, ◌==◌, ◌&&◌, ℕ, zero, suc, Bool, true, false, not, if◌then◌else◌, List, [], ◌∷◌, Option, None, Some, ◌<◌, drop, take, eqb-true, lit<, refl, sym, ap, ap₂, ◌∙◌, true≢false}
+use Rattle.std.proofs.Common.{◌≡◌, ◌==◌, ◌&&◌, ℕ, zero, suc, Bool, true, false, not, if◌then◌else◌, List, [], ◌∷◌, Option, None, Some, ◌<◌, drop, take, eqb-true, lit<, refl, sym, ap, ap₂, ◌∙◌}
+use Rattle.std.proofs.Common.{true≢false, option_map}
 use Rattle.std.proofs.lemmas.Bool.{and_parts, and_from}
-use Rattle.std.specs.Option.{option_map}
-use Rattle.s66_isa.specs.Lists.{every}
-use Rattle.s66_isa.specs.declared.instr.Instr.{Instr}
-use Rattle.s66_line.specs.Characters.{begins_blank, characters_in, cut, is_cut, place_after, rest_in, runs_on, still_taken, taken_in, through}
-use Rattle.s66_line.specs.Fields.{after_word, is_trailing, skip_blanks, trim, upper, word}
-use Rattle.s66_line.specs.InstructionText.{Spells, operand_in, operation_in}
-use Rattle.s66_line.specs.declared.characters.Place.{Place}
-use Rattle.s66_line.specs.declared.characters.Place.TheVariants.{AtTerm, InTerm, InCount, AtEquals, AtLetter, InCharacters, InSlashes, InStars}
+use Rattle.s66_isa.specs.{every, Instr}
+use Rattle.s66_line.specs.{begins_blank, characters_in, cut, is_cut, place_after, rest_in, runs_on, still_taken, taken_in, through, after_word, is_trailing, skip_blanks, trim, upper, word, Spells}
+use Rattle.s66_line.specs.{operand_in, operation_in, Place, AtTerm, InTerm, InCount, AtEquals, AtLetter, InCharacters, InSlashes, InStars}
 use Rattle.s66_line.proofs.UpperCase.{blank-kept, kept, upper-after_word, upper-skip_blanks, upper-twice, upper-word}
 use Rattle.s66_source.proofs.ReadBack.{trim-kept, trim-all}
 

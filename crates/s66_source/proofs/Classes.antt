@@ -1,14 +1,9 @@
 -- What the class of a line tells of it, whatever the line before is.
 use Rattle.std.proofs.Common.{◌≡◌, ◌==◌, ◌&&◌, Bool, true, false, if◌then◌else◌, Option, None, Some, is_some, ℕ, List, [], ◌∷◌, refl, ap, ◌∙◌}
-use Rattle.s66_isa.specs.declared.instr.Instr.{Instr}
-use Rattle.s66_line.specs.Characters.{runs_on}
-use Rattle.s66_line.specs.Classes.{begins_run, class_of, class_of_operand, is_code, is_located, is_pad}
-use Rattle.s66_line.specs.Fields.{body, continues, from_operation, is_comment, operation, upper}
-use Rattle.s66_line.specs.InstructionText.{operand_in, operation_in}
-use Rattle.s66_line.specs.Operand.{instr_of, is_octal, operation_of}
-use Rattle.s66_line.specs.declared.class.Class.{Class}
-use Rattle.s66_line.specs.declared.class.Class.TheVariants.{Comment, Other, Refused, Pad, Instruction}
-use Rattle.s66_source.specs.Roles.{is_comment_class}
+use Rattle.s66_isa.specs.{Instr}
+use Rattle.s66_line.specs.{runs_on, begins_run, class_of, class_of_operand, is_code, is_located, is_pad, body, continues, from_operation, is_comment, operation, upper, operand_in, operation_in}
+use Rattle.s66_line.specs.{instr_of, is_octal, operation_of, Class, Comment, Other, Refused, Pad, Instruction}
+use Rattle.s66_source.specs.{is_comment_class}
 use Rattle.s66_source.proofs.CharactersRead.{SpellsAll}
 
 -- NAMES OF INSTRUCTIONS

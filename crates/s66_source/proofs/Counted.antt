@@ -1,11 +1,12 @@
 -- Operands cut at commas and other bytes, and the numbers that their digits spell, for what an operation covers.
-use Rattle.std.proofs.Common.{◌≡◌, ◌≤◌, ◌<◌, ◌+◌, ◌-◌, ◌*◌, ◌==◌, ℕ, zero, suc, Bool, true, false, if◌then◌else◌, min, Option, None, Some, List, [], ◌∷◌, length, nat_lt, take, drop, get_or, drop-cons, add-one, refl, sym, ap, ◌∙◌, arith}
+use Rattle.std.proofs.Common.{◌≡◌, ◌≤◌, ◌<◌, ◌+◌, ◌-◌, ◌*◌, ◌==◌, ℕ, zero, suc, Bool, true, false, if◌then◌else◌, min, Option, None, Some, List, [], ◌∷◌, length, nat_lt, take, drop, get_or, drop-cons}
+use Rattle.std.proofs.Common.{add-one, refl, sym, ap, ◌∙◌, arith}
 use Rattle.std.proofs.lemmas.Bool.{and_parts, false_from_ne_true}
-use Rattle.s66_line.specs.Fields.{after_word, from_operand, from_operation}
-use Rattle.s66_line.proofs.LineFields.{from_operation_within, skip_blanks-length, after_word-length}
 use Rattle.memchr.specs.Find.{IsFirstByte, is_byte}
-use Rattle.s66_isa.specs.Lists.{every}
-use Rattle.s66_source.specs.Counts.{after_byte, after_comma, before_byte, counting_text, spelled_after}
+use Rattle.s66_isa.specs.{every}
+use Rattle.s66_line.specs.{after_word, from_operand, from_operation}
+use Rattle.s66_line.proofs.LineFields.{from_operation_within, skip_blanks-length, after_word-length}
+use Rattle.s66_source.specs.{after_byte, after_comma, before_byte, counting_text, spelled_after}
 
 -- THE FIRST OF SOME BYTE
 

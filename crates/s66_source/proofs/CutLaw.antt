@@ -1,18 +1,11 @@
 -- With `--cut` nothing is refused for its operand; without it, and without a switch, nothing is left alone.
-use Rattle.std.proofs.Common.{◌≡◌, ◌||◌, ℕ, suc, Bool, true, false, not, if◌then◌else◌, List, [], ◌∷◌, Option, None, Some, refl}
-use Rattle.std.specs.Prelude.{Err}
+use Rattle.std.proofs.Common.{◌≡◌, ◌||◌, ℕ, suc, Bool, true, false, not, if◌then◌else◌, List, [], ◌∷◌, Option, None, Some, refl, Err}
 use Rattle.std.proofs.lemmas.Bool.{and_parts, and_from, not-true}
-use Rattle.s66_isa.specs.Lists.{every}
-use Rattle.s66_line.specs.Blocks.{Block}
-use Rattle.s66_line.specs.Classes.{by_operation, class_of, is_code, is_located}
-use Rattle.s66_line.specs.Fields.{body, continues, is_comment, lines_of, from_operation}
-use Rattle.s66_line.specs.declared.class.Class.{Class}
-use Rattle.s66_line.specs.declared.class.Class.TheVariants.{Comment, Other, Refused, Pad, Instruction}
-use Rattle.s66_source.specs.LeftAlone.{Flagged, after_line, at_first, class_at, flagged_from, is_alone, is_continued, is_held, is_doubtful, is_far, is_off_switch, is_on_switch, redefined_by, Standing}
-use Rattle.s66_source.specs.Redefinitions.{Redefined, is_redefined}
-use Rattle.s66_source.specs.Source.{blocks_of, classed_lines, classes_from, label_after, operand_refusal, or_else, place_after, refusal, run_after, source_of, unless_refused}
-use Rattle.s66_source.specs.declared.error.SourceError.{SourceError}
-use Rattle.s66_source.specs.declared.error.SourceError.TheVariants.{BadOperand, LineTooLong, TooLarge}
+use Rattle.s66_isa.specs.{every}
+use Rattle.s66_line.specs.{Block, by_operation, class_of, is_code, is_located, body, continues, is_comment, lines_of, from_operation, Class, Comment, Other, Refused, Pad, Instruction}
+use Rattle.s66_source.specs.{Flagged, after_line, at_first, class_at, flagged_from, is_alone, is_continued, is_held, is_doubtful, is_far, is_off_switch, is_on_switch, redefined_by, Standing}
+use Rattle.s66_source.specs.{Redefined, is_redefined, blocks_of, classed_lines, classes_from, label_after, operand_refusal, or_else, place_after, refusal, run_after, source_of, unless_refused}
+use Rattle.s66_source.specs.{SourceError, BadOperand, LineTooLong, TooLarge}
 
 -- WITH `--cut` what would be refused is left alone
 

@@ -1,17 +1,13 @@
 -- The names that a source defines anew, line by line.
-use Rattle.std.proofs.Common.{◌≡◌, ◌≤◌, ◌<◌, ◌==◌, ◌||◌, ◌++◌, ℕ, zero, suc, true, false, cond, List, [], ◌∷◌, codes, length, map, refl, sym, ap, ap₂, ◌∙◌, arith, append_assoc, lit<, take, le-leb, get_or, true≢false, subst, eq-eqb}
 use Rattle.std.specs.Char.{to_ascii_uppercase}
-use Rattle.std.specs.List.{filter}
+use Rattle.std.proofs.Common.{◌≡◌, ◌≤◌, ◌<◌, ◌==◌, ◌||◌, ◌++◌, ℕ, zero, suc, true, false, cond, List, [], ◌∷◌, codes, length, map, refl, sym, ap, ap₂, ◌∙◌, arith, append_assoc, lit<, take, le-leb}
+use Rattle.std.proofs.Common.{get_or, true≢false, subst, eq-eqb, filter, bytes_eq, eqb-true, append-nil}
 use Rattle.std.proofs.lemmas.List.Elements.{filter-append}
-use Rattle.std.specs.Prelude.{bytes_eq}
-use Rattle.std.proofs.lemmas.Bool.{false_from_ne_true, eqb-true, lt-leb, or_parts, or_from}
-use Rattle.std.proofs.lemmas.List.{append-nil}
+use Rattle.std.proofs.lemmas.Bool.{false_from_ne_true, lt-leb, or_parts, or_from}
 use Rattle.std.proofs.lemmas.Slice.Eq.{bytes_eq-Decides}
-use Rattle.s66_line.specs.Fields.{body, continues, is_comment, lines_from, location, operand, operation, upper, upper_byte}
+use Rattle.s66_line.specs.{body, continues, is_comment, lines_from, location, operand, operation, upper, upper_byte}
 use Rattle.s66_line.proofs.UpperCase.{kept, length-upper, upper-if}
-use Rattle.s66_source.specs.Counts.{before_byte, is_one_of}
-use Rattle.s66_source.specs.Redefinitions.{Redefined, defined_by, defined_name, forming, macros, own_operation, renaming, is_short}
-use Rattle.s66_source.specs.Redefining.{with_bodies, with_lines, begins_so, one_begins_so}
+use Rattle.s66_source.specs.{before_byte, is_one_of, Redefined, defined_by, defined_name, forming, macros, own_operation, renaming, is_short, with_bodies, with_lines, begins_so, one_begins_so}
 use Rattle.s66_source.proofs.Standings.{upper-ascii}
 
 -- NAMES

@@ -1,10 +1,9 @@
 -- What a directive is by its first letter, and that it is the same in upper case.
 use Rattle.std.proofs.Common.{◌≡◌, ◌==◌, ◌&&◌, ◌||◌, ℕ, zero, suc, Bool, true, false, not, if◌then◌else◌, List, [], ◌∷◌, drop, take, refl, sym, ap, ap₂, ◌∙◌, lit<}
-use Rattle.s66_line.specs.Fields.{continues, is_comment, operation, upper, upper_byte}
+use Rattle.s66_line.specs.{continues, is_comment, operation, upper, upper_byte}
 use Rattle.s66_line.proofs.UpperCase.{kept, upper-twice}
-use Rattle.s66_source.specs.Counts.{counting_text}
-use Rattle.s66_source.specs.LeftAlone.{Standing, after_directive, after_operation, directive_cover, has_operation, with_directive, with_operation, directs, is_directive, is_letter}
-use Rattle.s66_source.specs.declared.limits.TheConstants.{DIRECTIVE_LIMIT}
+use Rattle.s66_source.specs.{counting_text, Standing, after_directive, after_operation, directive_cover, has_operation, with_directive, with_operation, directs, is_directive, is_letter}
+use Rattle.s66_source.specs.{DIRECTIVE_LIMIT}
 
 twice : (first rest : Bool) → (first && (first && rest)) ≡ (first && rest)
 twice true rest = refl

@@ -1,24 +1,16 @@
 -- Operands that aren't seen, since they begin in column 30 or later, and lines in doubt, in lines that are printed.
-use Rattle.std.proofs.Common.{◌≡◌, ◌≤◌, ◌<◌, ◌+◌, ◌-◌, ◌&&◌, ◌||◌, ◌++◌, ◌∙◌, ℕ, suc, Bool, true, false, true≢false, if◌then◌else◌, List, [], ◌∷◌, length, max, min, replicate, nat_le, nat_lt, refl, sym, ap, subst, arith, lt-ltb}
-use Rattle.std.proofs.lemmas.Bool.{and_right, leb-false, ltb-false, or_from, or_parts, lt-ltb, ltb-true, lt-leb}
-use Rattle.std.proofs.lemmas.List.{append_assoc, length-append, length-replicate}
-use Rattle.s66_isa.specs.Lists.{every}
-use Rattle.s66_isa.specs.declared.instr.Instr.{Instr}
-use Rattle.s66_line.specs.Fields.{after_word, body, from_operand, from_operation, is_blank, is_trailing, label_bytes, skip_blanks, trim}
-use Rattle.s66_line.specs.InstructionText.{Spells}
-use Rattle.s66_line.specs.Operand.{is_filled}
-use Rattle.s66_source.specs.Columns.{before_operation, indent, line_start}
+use Rattle.std.proofs.Common.{◌≡◌, ◌≤◌, ◌<◌, ◌+◌, ◌-◌, ◌&&◌, ◌||◌, ◌++◌, ◌∙◌, ℕ, suc, Bool, true, false, true≢false, if◌then◌else◌, List, [], ◌∷◌, length, max, min, replicate, nat_le, nat_lt, refl}
+use Rattle.std.proofs.Common.{sym, ap, subst, arith, lt-ltb, leb-false, ltb-false, ltb-true, append_assoc, length-append}
+use Rattle.std.proofs.lemmas.Bool.{and_right, or_from, or_parts, lt-leb}
+use Rattle.std.proofs.lemmas.List.{length-replicate}
+use Rattle.s66_isa.specs.{every, Instr}
+use Rattle.s66_line.specs.{after_word, body, from_operand, from_operation, is_blank, is_trailing, label_bytes, skip_blanks, trim, Spells, is_filled, Instruction, class_of, is_code}
+use Rattle.s66_source.specs.{before_operation, indent, line_start, Own, Usual, distance, is_far, is_doubtful, label_field, Redefined, is_redefined}
 use Rattle.s66_source.specs.declared.columns.Columns.{Columns}
-use Rattle.s66_source.specs.declared.columns.Columns.TheVariants.{Own, Usual}
-use Rattle.s66_source.specs.LeftAlone.{distance, is_far, is_doubtful}
-use Rattle.s66_source.specs.Printed.{label_field}
-use Rattle.s66_source.specs.Redefinitions.{Redefined, is_redefined}
 use Rattle.s66_source.proofs.RedefinedCase.{redefined-trim}
 use Rattle.s66_source.proofs.ReadBack.{trim-all}
 use Rattle.s66_source.proofs.ReadLine.{operand-trimmed, IsLabel, IsRead, read-indented, read-line, body-again, trim-behind}
 use Rattle.s66_source.proofs.CharactersRead.{SpellsAll}
-use Rattle.s66_line.specs.declared.class.Class.TheVariants.{Instruction}
-use Rattle.s66_line.specs.Classes.{class_of, is_code}
 use Rattle.s66_source.proofs.Classes.{same-code}
 
 -- the operand is filled, and so far behind the operation

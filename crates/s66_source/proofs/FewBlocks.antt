@@ -1,13 +1,9 @@
 -- How many blocks a source has: at most as many as it has lines.
-use Rattle.std.proofs.Common.{ℕ, suc, ◌+◌, ◌≡◌, ◌≤◌, ◌∙◌, Bool, true, false, if◌then◌else◌, List, [], ◌∷◌, length, refl, ap, sym, arith}
-use Rattle.std.specs.Prelude.{Ok}
+use Rattle.std.proofs.Common.{ℕ, suc, ◌+◌, ◌≡◌, ◌≤◌, ◌∙◌, Bool, true, false, if◌then◌else◌, List, [], ◌∷◌, length, refl, ap, sym, arith, Ok}
 use Rattle.std.proofs.lemmas.List.{length-map}
-use Rattle.s66_line.specs.Blocks.{Block}
-use Rattle.s66_line.specs.Classes.{is_code, is_instruction}
-use Rattle.s66_line.specs.Fields.{lines_of}
-use Rattle.s66_source.specs.LeftAlone.{Flagged, Reading, at_first, class_at, flagged_lines, redefined_by}
-use Rattle.s66_source.specs.Source.{Line, begins_block, block_of, classed_lines, classes_from, instructions, label_after, parts_of, place_after, put_before, run_after, source_of}
-use Rattle.s66_source.specs.declared.limits.TheConstants.{SOURCE_LINES_LIMIT}
+use Rattle.s66_line.specs.{Block, is_code, is_instruction, lines_of}
+use Rattle.s66_source.specs.{Flagged, Reading, at_first, class_at, flagged_lines, redefined_by, Line, begins_block, block_of, classed_lines, classes_from, instructions, label_after, parts_of}
+use Rattle.s66_source.specs.{place_after, put_before, run_after, source_of, SOURCE_LINES_LIMIT}
 use Rattle.s66_source.proofs.FlaggedLines.{length-flagged}
 use Rattle.s66_source.proofs.PrintedLines.{accepted-is, few-lines}
 

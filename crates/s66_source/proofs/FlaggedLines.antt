@@ -1,7 +1,7 @@
 -- The lines of a text, each flagged as left alone or not.
 use Rattle.std.proofs.Common.{◌≡◌, ◌&&◌, ℕ, suc, true, false, Bool, List, [], ◌∷◌, length, map, refl, sym, ap, ◌∙◌}
-use Rattle.s66_line.specs.Fields.{lines_from}
-use Rattle.s66_source.specs.LeftAlone.{Flagged, after_line, is_alone, is_continued, flagged_from, Standing}
+use Rattle.s66_line.specs.{lines_from}
+use Rattle.s66_source.specs.{Flagged, after_line, is_alone, is_continued, flagged_from, Standing}
 
 -- THE LINES THEMSELVES are those of the text
 

@@ -1,14 +1,10 @@
 -- Passing the lines of a source one by one gives its frame (`frame_of`).
-use Rattle.std.proofs.Common.{◌≡◌, ◌≤◌, ◌<◌, ◌+◌, ◌==◌, ◌∙◌, ℕ, suc, Bool, true, false, if◌then◌else◌, Option, None, Some, List, [], ◌∷◌, ◌++◌, drop, get_or, length, map, refl, sym, ap, ap₂, append_assoc, arith, slice_get, subst}
-use Rattle.std.specs.Prelude.{Ok}
-use Rattle.std.proofs.lemmas.List.{append-nil, drop_all}
-use Rattle.s66_line.specs.Blocks.{Block, line_of}
-use Rattle.s66_line.specs.Fields.{trim, is_trailing}
-use Rattle.s66_source.specs.Frame.{FramePart, block_part, frame_of, frame_of_lines}
-use Rattle.s66_source.specs.Kept.{KeptLine, begins_at, is_beside_by, kept_line, part_by}
-use Rattle.s66_source.specs.LeftAlone.{Reading}
-use Rattle.s66_source.specs.Source.{Line, blocks_of, classed_lines, source_of}
-use Rattle.s66_source.specs.declared.limits.TheConstants.{SOURCE_LINES_LIMIT}
+use Rattle.std.proofs.Common.{◌≡◌, ◌≤◌, ◌<◌, ◌+◌, ◌==◌, ◌∙◌, ℕ, suc, Bool, true, false, if◌then◌else◌, Option, None, Some, List, [], ◌∷◌, ◌++◌, drop, get_or, length, map, refl, sym, ap, ap₂}
+use Rattle.std.proofs.Common.{append_assoc, arith, slice_get, subst, Ok, append-nil}
+use Rattle.std.proofs.lemmas.List.{drop_all}
+use Rattle.s66_line.specs.{Block, line_of, trim, is_trailing}
+use Rattle.s66_source.specs.{FramePart, block_part, frame_of, frame_of_lines, KeptLine, begins_at, is_beside_by, kept_line, part_by, Reading, Line, blocks_of, classed_lines, source_of}
+use Rattle.s66_source.specs.{SOURCE_LINES_LIMIT}
 use Rattle.s66_source.proofs.LineTexts.{count_after, first_of}
 use Rattle.s66_source.proofs.Settled.{AreSettled, IsSettled, get-none, get-some, item-next, map-first, settled-source}
 

@@ -1,9 +1,10 @@
 -- Where a text is parted into two sources, by its lines (`halves_of`).
 use Rattle.std.proofs.Common.{◌≡◌, ◌+◌, ◌==◌, ℕ, zero, suc, true, false, if◌then◌else◌, Option, None, Some, List, [], ◌∷◌, ◌++◌, take, drop, refl, sym, ap, ap₂, ◌∙◌, arith, append_assoc, take-add}
-use Rattle.std.proofs.lemmas.Bool.{eqb-true, false_from_ne_true}
-use Rattle.std.proofs.lemmas.List.{append-nil, drop-drop}
+use Rattle.std.proofs.Common.{eqb-true, append-nil, drop-drop}
+use Rattle.std.proofs.lemmas.Bool.{false_from_ne_true}
 use Rattle.s66_line.proofs.LineCuts.{IsFirstNewline, later, nowhere}
-use Rattle.s66_source.specs.Halves.{Halves, halves_from, halves_of, is_new_mark}
+use Rattle.s66_source.specs.Halves.{Halves}
+use Rattle.s66_source.specs.{halves_from, halves_of, is_new_mark}
 
 -- a line ends here
 abbrev at_line : List ℕ → List ℕ → List ℕ → Option Halves

@@ -1,17 +1,11 @@
 -- Lines after as many blanks as are usual, and lines that keep their columns.
-use Rattle.std.proofs.Common.{◌≡◌, ◌≤◌, ◌<◌, ◌-◌, ◌==◌, ℕ, zero, suc, Bool, false, true, eqb-true, List, [], ◌∷◌, ◌++◌, codes, get_or, inl, inr, length, map, replicate, take, refl, sym, ap, ◌∙◌, arith}
+use Rattle.std.proofs.Common.{◌≡◌, ◌≤◌, ◌<◌, ◌-◌, ◌==◌, ℕ, zero, suc, Bool, false, true, eqb-true, List, [], ◌∷◌, ◌++◌, codes, get_or, inl, inr, length, map, replicate, take, refl, sym, ap, ◌∙◌}
+use Rattle.std.proofs.Common.{arith}
 use Rattle.std.proofs.lemmas.List.{take-replicate}
-use Rattle.s66_isa.specs.Lists.{Among}
-use Rattle.s66_line.specs.Blocks.{Block, Entry, bytes_of}
-use Rattle.s66_line.specs.Fields.{body, from_operation, trim, is_trailing}
-use Rattle.s66_isa.specs.declared.instr.Instr.{Instr}
-use Rattle.s66_line.specs.Classes.{class_of}
+use Rattle.s66_isa.specs.{Among, Instr}
+use Rattle.s66_line.specs.{Block, Entry, bytes_of, body, from_operation, trim, is_trailing, class_of, Instruction}
+use Rattle.s66_source.specs.{bytes_on, indent, indented_lines, indents, line_start, instruction_lines, label_field, Line, Own, Usual}
 use Rattle.s66_source.proofs.CharactersRead.{SpellsAll}
-use Rattle.s66_line.specs.declared.class.Class.TheVariants.{Instruction}
-use Rattle.s66_source.specs.Columns.{bytes_on, indent, indented_lines, indents, line_start}
-use Rattle.s66_source.specs.Printed.{instruction_lines, label_field}
-use Rattle.s66_source.specs.Source.{Line}
-use Rattle.s66_source.specs.declared.columns.Columns.TheVariants.{Own, Usual}
 use Rattle.s66_source.proofs.FarOperands.{indent-bounds, read-start}
 use Rattle.s66_source.proofs.ReadLine.{IsRead}
 

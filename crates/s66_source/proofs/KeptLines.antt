@@ -1,23 +1,15 @@
 -- Printing a source by the lines that are kept of it gives the text of the definition.
-use Rattle.std.proofs.Common.{◌≡◌, ◌≤◌, ◌<◌, ◌+◌, ◌-◌, ◌==◌, ◌&&◌, ◌∙◌, ℕ, zero, suc, Bool, true, false, if◌then◌else◌, Option, None, Some, List, [], ◌∷◌, ◌++◌, codes, drop, get_or, is_some, length, map, nat_lt, slice_get, refl, sym, ap, ap₂, subst, inl, inr, arith, append_assoc}
-use Rattle.std.specs.Prelude.{MatchOption, Ok, option_map}
-use Rattle.std.proofs.lemmas.Bool.{cases_lt, eq-eqb, le-ltb, lt-ltb, ne_eqb}
-use Rattle.std.proofs.lemmas.List.{append-nil, drop_all}
-use Rattle.s66_isa.specs.Lists.{Among}
-use Rattle.s66_line.specs.Blocks.{Block, Entry, line_of}
-use Rattle.s66_line.specs.Fields.{body}
-use Rattle.s66_line.specs.declared.class.Class.{Class}
-use Rattle.s66_line.specs.declared.class.Class.TheVariants.{Comment, Other, Refused, Pad, Instruction}
-use Rattle.s66_source.specs.Columns.{bytes_on, indent, indents}
-use Rattle.s66_source.specs.Keeper.{Keeper, block_at, bytes_at, bytes_in, indents_by, note_by_kind, note_in, owner_by, placed_of, text_by, text_in, whole_text}
-use Rattle.s66_source.specs.Kept.{KeptLine, begins_at, kept_line, kind_of}
-use Rattle.s66_source.specs.LeftAlone.{Reading, flagged_lines}
-use Rattle.s66_source.specs.Printed.{Placed, notes_text}
-use Rattle.s66_source.specs.Replaced.{AreGiven, anew_text, begins, line_text, owner, replaced, text_for, texts_of}
-use Rattle.s66_source.specs.Roles.{is_comment_class, is_note_of}
-use Rattle.s66_source.specs.Source.{Line, blocks_of, classed_lines, source_of}
+use Rattle.std.proofs.Common.{◌≡◌, ◌≤◌, ◌<◌, ◌+◌, ◌-◌, ◌==◌, ◌&&◌, ◌∙◌, ℕ, zero, suc, Bool, true, false, if◌then◌else◌, Option, None, Some, List, [], ◌∷◌, ◌++◌, codes, drop, get_or, is_some, length}
+use Rattle.std.proofs.Common.{map, nat_lt, slice_get, refl, sym, ap, ap₂, subst, inl, inr, arith, append_assoc, MatchOption, Ok, option_map, eq-eqb, le-ltb, lt-ltb, ne_eqb, append-nil}
+use Rattle.std.proofs.lemmas.Bool.{cases_lt}
+use Rattle.std.proofs.lemmas.List.{drop_all}
+use Rattle.s66_isa.specs.{Among}
+use Rattle.s66_line.specs.{Block, Entry, line_of, body, Class, Comment, Other, Refused, Pad, Instruction}
+use Rattle.s66_source.specs.{bytes_on, indent, indents, block_at, bytes_at, bytes_in, indents_by, note_by_kind, note_in, owner_by, placed_of, text_by, text_in, whole_text, KeptLine, begins_at}
+use Rattle.s66_source.specs.{kept_line, kind_of, Reading, flagged_lines, Placed, notes_text, AreGiven, anew_text, begins, line_text, owner, replaced, text_for, texts_of, is_comment_class, is_note_of}
+use Rattle.s66_source.specs.{Line, blocks_of, classed_lines, source_of, SOURCE_LINES_LIMIT}
+use Rattle.s66_source.specs.Keeper.{Keeper}
 use Rattle.s66_source.specs.declared.columns.Columns.{Columns}
-use Rattle.s66_source.specs.declared.limits.TheConstants.{SOURCE_LINES_LIMIT}
 use Rattle.s66_source.proofs.LineLaw.{outside}
 use Rattle.s66_source.proofs.LineTexts.{count_after, first_of, text_at}
 use Rattle.s66_source.proofs.PrintedLines.{Ordered, ordered-classed, run_behind}

@@ -1,11 +1,8 @@
 -- The lines that reading keeps are those of the definition.
-use Rattle.std.proofs.Common.{◌≡◌, ◌∙◌, ℕ, suc, Bool, false, List, [], ◌∷◌, ◌++◌, map, sym, append_assoc}
-use Rattle.std.proofs.lemmas.List.{append-nil}
-use Rattle.s66_line.specs.Classes.{is_code}
-use Rattle.s66_line.specs.declared.class.Class.{Class}
-use Rattle.s66_source.specs.Kept.{Kept, kept_line, nothing_kept, put_line, put_lines}
-use Rattle.s66_source.specs.LeftAlone.{Flagged, Reading, class_at, flagged_lines}
-use Rattle.s66_source.specs.Source.{Line, classed_lines, classes_from, label_after, label_at, place_at, run_at}
+use Rattle.std.proofs.Common.{◌≡◌, ◌∙◌, ℕ, suc, Bool, false, List, [], ◌∷◌, ◌++◌, map, sym, append_assoc, append-nil}
+use Rattle.s66_line.specs.{is_code, Class}
+use Rattle.s66_source.specs.Kept.{Kept}
+use Rattle.s66_source.specs.{kept_line, nothing_kept, put_line, put_lines, Flagged, Reading, class_at, flagged_lines, Line, classed_lines, classes_from, label_after, label_at, place_at, run_at}
 
 kept-from : (lines : List Flagged) (after : Bool) (k : Kept) (number : ℕ) (label : List ℕ) → (put_lines after k lines).lines ≡ k.lines ++ map kept_line (classes_from number k.run k.index label after lines)
 kept-from [] after k number label = sym (append-nil k.lines)

@@ -1,21 +1,13 @@
 -- Each line of an accepted source is exactly one thing, and a note is one of exactly one block.
-use Rattle.std.proofs.Common.{◌≡◌, ◌≤◌, ◌+◌, ◌&&◌, ◌||◌, not, ℕ, suc, Bool, true, false, cond, if◌then◌else◌, List, [], ◌∷◌, ◌++◌, length, map, nat_lt, refl, ap, ◌∙◌, inl, inr, arith, Option, None, Some}
-use Rattle.std.specs.Prelude.{◌⊎◌, Ok}
+use Rattle.std.proofs.Common.{◌≡◌, ◌≤◌, ◌+◌, ◌&&◌, ◌||◌, not, ℕ, suc, Bool, true, false, cond, if◌then◌else◌, List, [], ◌∷◌, ◌++◌, length, map, nat_lt, refl, ap, ◌∙◌, inl, inr, arith, Option, None}
+use Rattle.std.proofs.Common.{Some, ◌⊎◌, Ok, le-ltb, ltb-false}
 use Rattle.std.proofs.Math.Bool.{and-false}
-use Rattle.std.proofs.lemmas.Bool.{cases_lt, le-ltb, ltb-false}
-use Rattle.s66_isa.specs.Lists.{Among, tally, some_of}
-use Rattle.s66_source.specs.Source.{Line, run_after, place_after, label_after, classes_from, classed_lines, operand_refusal, refusal_at, or_else, refusal, instructions, parts_of, entry_of, block_of, blocks_of, unless_refused, source_of}
-use Rattle.s66_line.specs.Blocks.{Block, line_of}
-use Rattle.s66_line.specs.Classes.{is_instruction, is_code, ends_run}
-use Rattle.s66_source.specs.LeftAlone.{Reading, Flagged, class_at, flagged_lines}
-use Rattle.s66_source.specs.BlockParts.{all_of}
-use Rattle.s66_source.specs.Roles.{is_comment_class, is_pad_class, is_note_of, is_note, has_block, roles}
-use Rattle.s66_line.specs.declared.class.Class.{Class}
-use Rattle.s66_line.specs.declared.class.Class.TheVariants.{Comment, Other, Refused, Pad, Instruction}
-use Rattle.s66_line.specs.declared.limits.TheConstants.{LINE_BYTES_LIMIT}
-use Rattle.s66_source.specs.declared.limits.TheConstants.{SOURCE_LINES_LIMIT}
-use Rattle.s66_source.specs.declared.error.SourceError.{SourceError}
-use Rattle.s66_source.specs.declared.error.SourceError.TheVariants.{LineTooLong, TooLarge}
+use Rattle.std.proofs.lemmas.Bool.{cases_lt}
+use Rattle.s66_isa.specs.{Among, tally, some_of}
+use Rattle.s66_line.specs.{Block, line_of, is_instruction, is_code, ends_run, Class, Comment, Other, Refused, Pad, Instruction, LINE_BYTES_LIMIT}
+use Rattle.s66_source.specs.{Line, run_after, place_after, label_after, classes_from, classed_lines, operand_refusal, refusal_at, or_else, refusal, instructions, parts_of, entry_of, block_of}
+use Rattle.s66_source.specs.{blocks_of, unless_refused, source_of, Reading, Flagged, class_at, flagged_lines, all_of, is_comment_class, is_pad_class, is_note_of, is_note, has_block, roles}
+use Rattle.s66_source.specs.{SOURCE_LINES_LIMIT, SourceError, LineTooLong, TooLarge}
 use Rattle.s66_source.proofs.PartsLaw.{parts}
 
 -- NO LINE OF AN ACCEPTED SOURCE IS REFUSED

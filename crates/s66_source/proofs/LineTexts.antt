@@ -1,21 +1,12 @@
 -- What is printed for a line of a source, by the parts of the lines to come: a block begins with it, or so many began before it.
-use Rattle.std.proofs.Common.{◌≡◌, ◌≤◌, ◌<◌, ◌+◌, ◌%◌, ◌==◌, ◌&&◌, ◌||◌, ℕ, suc, Bool, true, false, if◌then◌else◌, Option, None, Some, List, [], ◌∷◌, ◌++◌, get_or, length, map, refl, sym, ap, ap₂, ◌∙◌, subst, inl, inr, arith, append_assoc, eqb, nat_lt}
-use Rattle.std.specs.Prelude.{◌⊎◌}
-use Rattle.std.proofs.lemmas.Bool.{ne_eqb, eq-eqb, lt-ltb, le-ltb}
-use Rattle.std.proofs.lemmas.List.{length-append}
+use Rattle.std.proofs.Common.{◌≡◌, ◌≤◌, ◌<◌, ◌+◌, ◌%◌, ◌==◌, ◌&&◌, ◌||◌, ℕ, suc, Bool, true, false, if◌then◌else◌, Option, None, Some, List, [], ◌∷◌, ◌++◌, get_or, length, map, refl, sym, ap, ap₂}
+use Rattle.std.proofs.Common.{◌∙◌, subst, inl, inr, arith, append_assoc, eqb, nat_lt, ◌⊎◌, ne_eqb, eq-eqb, lt-ltb, le-ltb, length-append}
+use Rattle.s66_isa.specs.{some_of, tally, Instr, BLOCK_LIMIT}
 use Rattle.s66_isa.proofs.Lists.{tally-append}
-use Rattle.s66_isa.specs.Lists.{some_of, tally}
-use Rattle.s66_isa.specs.declared.instr.Instr.{Instr}
-use Rattle.s66_line.specs.Blocks.{Block, line_of}
-use Rattle.s66_line.specs.Classes.{is_code, is_instruction}
-use Rattle.s66_line.specs.declared.class.Class.{Class}
-use Rattle.s66_line.specs.declared.class.Class.TheVariants.{Other, Pad, Instruction}
-use Rattle.s66_isa.specs.declared.limits.TheConstants.{BLOCK_LIMIT}
-use Rattle.s66_source.specs.LeftAlone.{Flagged, Reading, class_at, flagged_lines}
-use Rattle.s66_source.specs.Printed.{Placed, copied_line}
-use Rattle.s66_source.specs.Replaced.{anew_text, begins, begun, line_text, others, owner, text_for, texts_of}
-use Rattle.s66_source.specs.Roles.{has_block, is_comment_class, is_dropped, is_leading, is_note, is_pad_class}
-use Rattle.s66_source.specs.Source.{Line, begins_block, block_of, blocks_of, classed_lines, classes_from, instructions, label_after, label_at, parts_of, place_after, place_at, run_after, run_at}
+use Rattle.s66_line.specs.{Block, line_of, is_code, is_instruction, Class, Other, Pad, Instruction}
+use Rattle.s66_source.specs.{Flagged, Reading, class_at, flagged_lines, Placed, copied_line, anew_text, begins, begun, line_text, others, owner, text_for, texts_of, has_block, is_comment_class}
+use Rattle.s66_source.specs.{is_dropped, is_leading, is_note, is_pad_class, Line, begins_block, block_of, blocks_of, classed_lines, classes_from, instructions, label_after, label_at, parts_of}
+use Rattle.s66_source.specs.{place_after, place_at, run_after, run_at}
 use Rattle.s66_source.specs.declared.columns.Columns.{Columns}
 use Rattle.s66_source.proofs.ReaderBlocks.{fresh, from_class, left, behind, behind-put, left-begins, behind-begins}
 use Rattle.s66_source.proofs.LineLaw.{no-note_in}

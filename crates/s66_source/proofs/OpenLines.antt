@@ -1,12 +1,8 @@
 -- The class of a line that is not left alone for what stands before it, by whether it would be refused (`Standing::classify`).
 use Rattle.std.proofs.Common.{◌≡◌, ◌∙◌, ◌&&◌, ◌||◌, Bool, true, false, if◌then◌else◌, List, ℕ, refl, sym, ap}
-use Rattle.s66_line.specs.Classes.{by_operation, class_of, is_located}
-use Rattle.s66_line.specs.Fields.{body, continues, is_comment, from_operation}
-use Rattle.s66_line.specs.declared.class.Class.{Class}
-use Rattle.s66_line.specs.declared.class.Class.TheVariants.{Comment, Other, Refused}
-use Rattle.s66_source.specs.LeftAlone.{class_at, is_alone, is_doubtful, is_held, Standing}
-use Rattle.s66_source.specs.Redefinitions.{Redefined}
 use Rattle.std.proofs.lemmas.Bool.{or_right}
+use Rattle.s66_line.specs.{by_operation, class_of, is_located, body, continues, is_comment, from_operation, Class, Comment, Other, Refused}
+use Rattle.s66_source.specs.{class_at, is_alone, is_doubtful, is_held, Standing, Redefined}
 
 -- what is refused directly after code alone is an Other line elsewhere
 same-or-other : (known : Redefined) (line : List ℕ) (after comment continued : Bool) (c : Class) →

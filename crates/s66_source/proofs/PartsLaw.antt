@@ -1,17 +1,12 @@
 -- The blocks of a source are its instruction lines, cut into runs and these into blocks (`parts_law`).
-use Rattle.std.proofs.Common.{◌≡◌, ◌≤◌, ◌<◌, ◌+◌, ◌%◌, ℕ, suc, Bool, true, false, List, [], ◌∷◌, length, refl, sym, ap, ◌∙◌, subst, inl, inr, arith, eqb}
-use Rattle.std.specs.Prelude.{◌⊎◌, if◌then◌else◌}
+use Rattle.std.proofs.Common.{◌≡◌, ◌≤◌, ◌<◌, ◌+◌, ◌%◌, ℕ, suc, Bool, true, false, List, [], ◌∷◌, length, refl, sym, ap, ◌∙◌, subst, inl, inr, arith, eqb, ◌⊎◌, if◌then◌else◌, eqb-true, mod-eq_of_lt}
 use Rattle.std.proofs.lemmas.Nat.{mod_below}
-use Rattle.std.proofs.lemmas.Bool.{eqb-false, eqb-true, cases_lt}
-use Rattle.std.proofs.Math.Nat.{suc-mod, mod-eq_of_lt}
-use Rattle.s66_isa.specs.Lists.{Among}
-use Rattle.s66_isa.specs.declared.limits.TheConstants.{BLOCK_LIMIT}
-use Rattle.s66_source.specs.Source.{Line, run_at, run_after, place_at, place_after, label_at, label_after, classes_from, classed_lines, instructions, begins_block, put_before, parts_of}
-use Rattle.s66_line.specs.Classes.{is_code}
-use Rattle.s66_source.specs.LeftAlone.{Reading, Flagged, class_at, flagged_lines}
-use Rattle.s66_source.specs.BlockParts.{all_of, AreFull, AreParts}
-use Rattle.s66_line.specs.declared.class.Class.{Class}
-use Rattle.s66_line.specs.declared.class.Class.TheVariants.{Comment, Other, Refused, Pad, Instruction}
+use Rattle.std.proofs.lemmas.Bool.{eqb-false, cases_lt}
+use Rattle.std.proofs.Math.Nat.{suc-mod}
+use Rattle.s66_isa.specs.{Among, BLOCK_LIMIT}
+use Rattle.s66_line.specs.{is_code, Class, Comment, Other, Refused, Pad, Instruction}
+use Rattle.s66_source.specs.{Line, run_at, run_after, place_at, place_after, label_at, label_after, classes_from, classed_lines, instructions, begins_block, put_before, parts_of, Reading, Flagged}
+use Rattle.s66_source.specs.{class_at, flagged_lines, all_of, AreFull, AreParts}
 use Rattle.s66_source.proofs.ReaderBlocks.{put-before}
 
 -- EACH LINE STANDS IN ONE PART

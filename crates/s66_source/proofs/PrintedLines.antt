@@ -1,16 +1,9 @@
 -- The lines of a source with their classes, in order, and the blocks of an accepted one, as printing and the frame go over them.
-use Rattle.std.proofs.Common.{◌≡◌, ◌≤◌, ◌+◌, ℕ, suc, Bool, true, false, if◌then◌else◌, None, List, [], ◌∷◌, length, map, refl, ap, ◌∙◌, inl, inr, arith}
-use Rattle.std.specs.Prelude.{Result, Ok}
-use Rattle.s66_isa.specs.Lists.{Among}
-use Rattle.s66_line.specs.Fields.{lines_of}
-use Rattle.s66_source.specs.LeftAlone.{Reading, Flagged, class_at, at_first, flagged_lines, redefined_by}
-use Rattle.s66_source.specs.Source.{Line, run_at, run_after, place_after, label_after, classes_from, classed_lines, refusal, refusal_at, instructions, blocks_of, source_of, place_at, label_at}
-use Rattle.s66_line.specs.Blocks.{Block}
-use Rattle.s66_line.specs.Classes.{is_instruction, is_code, ends_run}
-use Rattle.s66_line.specs.declared.class.Class.{Class}
-use Rattle.s66_line.specs.declared.class.Class.TheVariants.{Comment, Other, Refused, Pad, Instruction}
-use Rattle.s66_source.specs.declared.limits.TheConstants.{SOURCE_LINES_LIMIT}
-use Rattle.s66_source.specs.declared.error.SourceError.{SourceError}
+use Rattle.std.proofs.Common.{◌≡◌, ◌≤◌, ◌+◌, ℕ, suc, Bool, true, false, if◌then◌else◌, None, List, [], ◌∷◌, length, map, refl, ap, ◌∙◌, inl, inr, arith, Result, Ok}
+use Rattle.s66_isa.specs.{Among}
+use Rattle.s66_line.specs.{lines_of, Block, is_instruction, is_code, ends_run, Class, Comment, Other, Refused, Pad, Instruction}
+use Rattle.s66_source.specs.{Reading, Flagged, class_at, at_first, flagged_lines, redefined_by, Line, run_at, run_after, place_after, label_after, classes_from, classed_lines, refusal, refusal_at}
+use Rattle.s66_source.specs.{instructions, blocks_of, source_of, place_at, label_at, SOURCE_LINES_LIMIT, SourceError}
 use Rattle.s66_source.proofs.ReaderBlocks.{Gives-accepted}
 use Rattle.s66_source.proofs.FlaggedLines.{length-flagged}
 use Rattle.s66_source.proofs.LineLaw.{no_refusal, neither, taken-line}

@@ -1,30 +1,21 @@
 -- The lines of a printed text, read one after the other, have the blocks of their source: each as it was, or in its placed order.
-use Rattle.std.proofs.Common.{◌≡◌, ◌≤◌, ◌+◌, ◌%◌, ◌==◌, ◌&&◌, ℕ, suc, Bool, true, false, if◌then◌else◌, List, [], ◌∷◌, ◌++◌, Option, None, Some, get_or, length, map, refl, sym, ap, ◌∙◌, subst, inl, inr, arith, append_assoc, eqb, ap₂}
-use Rattle.std.specs.Prelude.{Ok, ◌⊎◌}
+use Rattle.std.proofs.Common.{◌≡◌, ◌≤◌, ◌+◌, ◌%◌, ◌==◌, ◌&&◌, ℕ, suc, Bool, true, false, if◌then◌else◌, List, [], ◌∷◌, ◌++◌, Option, None, Some, get_or, length, map, refl, sym, ap, ◌∙◌, subst, inl}
+use Rattle.std.proofs.Common.{inr, arith, append_assoc, eqb, ap₂, Ok, ◌⊎◌, eqb-true, true≢false, append-nil}
 use Rattle.std.proofs.Math.Dec.{eqb-suc-zero}
-use Rattle.std.proofs.lemmas.Bool.{eqb-true, eqb-false, true≢false, and_parts}
-use Rattle.std.proofs.lemmas.List.{append-nil, length-map}
-use Rattle.s66_isa.specs.declared.instr.Instr.{Instr}
-use Rattle.s66_isa.specs.Lists.{every}
-use Rattle.s66_line.specs.Fields.{body, continues, from_operation, label_bytes, is_comment}
-use Rattle.s66_line.specs.Operand.{is_filled}
-use Rattle.s66_source.specs.Source.{Line, run_at, run_after, place_at, place_after, label_at, label_after, classes_from, operand_refusal, refusal_at, refusal, instructions, begins_block, put_before, parts_of, entry_of, block_of}
-use Rattle.s66_line.specs.Blocks.{Block, Entry}
-use Rattle.s66_line.specs.Classes.{class_of, is_code, begins_run, instr_in}
-use Rattle.s66_source.specs.LeftAlone.{Flagged, Standing, after_line, class_at, is_alone, is_continued, flagged_from}
-use Rattle.s66_source.specs.Printed.{Placed, copied_line}
-use Rattle.s66_source.specs.ReadAgain.{AreComplete, AreGivenAgain, IsGivenAgain, IsSameAgain}
-use Rattle.s66_source.specs.Reader.{SourceState, with_open, end_block, begin_run, begin_run_if, count_line, by_class, and_then}
-use Rattle.s66_source.specs.Redefinitions.{Redefined}
-use Rattle.s66_source.specs.Replaced.{AreGiven, anew_text, begins, line_text, others, replaced, text_for}
-use Rattle.s66_source.specs.Roles.{is_comment_class}
+use Rattle.std.proofs.lemmas.Bool.{eqb-false, and_parts}
+use Rattle.std.proofs.lemmas.List.{length-map}
+use Rattle.s66_isa.specs.{Instr, every, BLOCK_LIMIT}
+use Rattle.s66_line.specs.{body, continues, from_operation, label_bytes, is_comment, is_filled, Block, Entry, class_of, is_code, begins_run, instr_in, Class, Comment, Other, Refused, Pad, Instruction}
+use Rattle.s66_line.proofs.Wholes.{is_inside}
+use Rattle.s66_source.specs.{Line, run_at, run_after, place_at, place_after, label_at, label_after, classes_from, operand_refusal, refusal_at, refusal, instructions, begins_block, put_before}
+use Rattle.s66_source.specs.{parts_of, entry_of, block_of, Flagged, Standing, after_line, class_at, is_alone, is_continued, flagged_from, Placed, copied_line, AreComplete, AreGivenAgain, IsGivenAgain}
+use Rattle.s66_source.specs.{IsSameAgain, SourceState, with_open, end_block, begin_run, begin_run_if, count_line, by_class, and_then, Redefined, AreGiven, anew_text, begins, line_text, others}
+use Rattle.s66_source.specs.{replaced, text_for, is_comment_class}
 use Rattle.s66_source.specs.declared.columns.Columns.{Columns}
-use Rattle.s66_line.specs.declared.class.Class.{Class}
-use Rattle.s66_line.specs.declared.class.Class.TheVariants.{Comment, Other, Refused, Pad, Instruction}
-use Rattle.s66_isa.specs.declared.limits.TheConstants.{BLOCK_LIMIT}
 use Rattle.s66_source.proofs.CutLaw as cut_law
 use Rattle.s66_source.proofs.LineLaw.{neither, taken-line}
-use Rattle.s66_source.proofs.LineTexts.{AreTexts, AreTold, IsTold, chosen_text, count_after, first-given, instruction-text, none-left, other-text, others-given, pad-text, parts_by, parts_from, plain-text, text_at}
+use Rattle.s66_source.proofs.LineTexts.{AreTexts, AreTold, IsTold, chosen_text, count_after, first-given, instruction-text, none-left, other-text, others-given, pad-text, parts_by, parts_from}
+use Rattle.s66_source.proofs.LineTexts.{plain-text, text_at}
 use Rattle.s66_source.proofs.PrintedLines.{same-blocks}
 use Rattle.s66_source.proofs.ReadBlock.{Ended, IsSoundBlock, read-block, with_one, with_open-push}
 use Rattle.s66_source.proofs.ReadComments.{goes-copied, read_at, read-as, read-copied, comment-line, AreLinesOfSource}
@@ -32,7 +23,6 @@ use Rattle.s66_source.proofs.ReadStanding.{flagged_at, goes_on, is_holding, take
 use Rattle.s66_source.proofs.ReaderBlocks.{from_class, full-index, labelled, length-push, next-index, behind, behind-put, left, left-put}
 use Rattle.s66_source.proofs.SoundBlocks.{AllTexts, AreSoundBlocks, AreWithin, located-label}
 use Rattle.s66_source.proofs.Standings.{code-line, code-stays, same-redefined}
-use Rattle.s66_line.proofs.Wholes.{is_inside}
 
 code-taken : (alone : Bool) (c : Class) → is_code (if alone then Other else c) ≡ true → (alone ≡ false) × (is_code c ≡ true)
 code-taken true c h = absurd (true≢false (sym h))

@@ -1,12 +1,8 @@
 -- A line that is printed as it was read is read as it was: its class, and what its end loses (`copied_law`).
-use Rattle.std.proofs.Common.{◌≡◌, ◌&&◌, not, ℕ, Bool, true, false, if◌then◌else◌, List, [], ◌∷◌, ◌++◌, refl, sym, ap, ◌∙◌, append_assoc, subst}
+use Rattle.std.proofs.Common.{◌≡◌, ◌&&◌, not, ℕ, Bool, true, false, if◌then◌else◌, List, [], ◌∷◌, ◌++◌, refl, sym, ap, ◌∙◌, append_assoc, subst, append-nil}
 use Rattle.std.proofs.lemmas.Bool.{and_parts, not-true}
-use Rattle.std.proofs.lemmas.List.{append-nil}
-use Rattle.s66_isa.specs.Lists.{every}
-use Rattle.s66_line.specs.Fields.{trim, body, is_return, is_newline, is_comment, continues, lines_from, lines_of, from_operation}
-use Rattle.s66_line.specs.Classes.{class_of, by_operation, is_located}
-use Rattle.s66_line.specs.declared.class.Class.{Class}
-use Rattle.s66_line.specs.declared.class.Class.TheVariants.{Comment, Other, Refused}
+use Rattle.s66_isa.specs.{every}
+use Rattle.s66_line.specs.{trim, body, is_return, is_newline, is_comment, continues, lines_from, lines_of, from_operation, class_of, by_operation, is_located, Class, Comment, Other, Refused}
 use Rattle.s66_line.proofs.LineCuts.{lines_from-here, lines_from-later}
 
 pub trim-all : (test : ℕ → Bool) (bytes : List ℕ) → every test bytes ≡ true → trim test bytes ≡ []

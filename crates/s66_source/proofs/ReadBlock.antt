@@ -1,35 +1,22 @@
 -- The lines of a block that is printed anew, read again, are the block in its placed order.
-use Rattle.std.proofs.Common.{◌≡◌, ◌≤◌, ◌<◌, ◌+◌, ◌-◌, ℕ, zero, suc, Bool, true, false, if◌then◌else◌, List, [], ◌∷◌, ◌++◌, Some, get_or, length, map, refl, sym, ap, ◌∙◌, subst, inl, inr, arith, append_assoc, eqb, ap₂, ◌&&◌}
-use Rattle.std.specs.Prelude.{Ok, slice_get}
-use Rattle.std.proofs.lemmas.Bool.{and_right, ne_eqb, eqb-false}
-use Rattle.s66_isa.specs.declared.instr.Instr.{Instr}
-use Rattle.s66_isa.specs.Lists.{Among, every}
-use Rattle.s66_isa.specs.Table.{instr_at}
-use Rattle.s66_line.specs.Fields.{trim, body, from_operation, label_bytes, is_trailing}
-use Rattle.s66_line.specs.Classes.{is_code}
-use Rattle.s66_line.specs.Operand.{is_filled}
-use Rattle.s66_source.proofs.CharactersRead.{SpellsAll}
-use Rattle.s66_source.specs.Columns.{bytes_on, indent, indented_line, indented_lines, indents, line_start}
-use Rattle.s66_source.specs.declared.columns.Columns.{Columns}
-use Rattle.s66_source.specs.Source.{Line}
-use Rattle.s66_line.specs.Blocks.{Entry, Block, instrs_of, entry_at, bytes_of}
-use Rattle.s66_source.specs.Printed.{Placed, report, notes_text}
-use Rattle.s66_source.specs.Replaced.{anew_text}
-use Rattle.s66_source.specs.ReadAgain.{IsPlacedAgain}
-use Rattle.s66_source.specs.Reader.{SourceState, with_open, end_block, begin_run_if, with_entry, count_line}
-use Rattle.s66_line.specs.declared.class.Class.{Class}
-use Rattle.s66_line.specs.declared.class.Class.TheVariants.{Instruction}
-use Rattle.s66_isa.specs.declared.limits.TheConstants.{BLOCK_LIMIT}
+use Rattle.std.proofs.Common.{◌≡◌, ◌≤◌, ◌<◌, ◌+◌, ◌-◌, ℕ, zero, suc, Bool, true, false, if◌then◌else◌, List, [], ◌∷◌, ◌++◌, Some, get_or, length, map, refl, sym, ap, ◌∙◌, subst, inl, inr, arith}
+use Rattle.std.proofs.Common.{append_assoc, eqb, ap₂, ◌&&◌, Ok, slice_get, ne_eqb}
+use Rattle.std.proofs.lemmas.Bool.{and_right, eqb-false}
+use Rattle.s66_isa.specs.{Instr, Among, every, instr_at, BLOCK_LIMIT}
+use Rattle.s66_line.specs.{trim, body, from_operation, label_bytes, is_trailing, is_code, is_filled, Entry, Block, instrs_of, entry_at, bytes_of, Class, Instruction}
 use Rattle.s66_line.proofs.BlockEntries.{instr_at-entry}
+use Rattle.s66_line.proofs.Wholes.{is_inside}
+use Rattle.s66_source.specs.{bytes_on, indent, indented_line, indented_lines, indents, line_start, Line, Placed, report, notes_text, anew_text, IsPlacedAgain, SourceState, with_open, end_block}
+use Rattle.s66_source.specs.{begin_run_if, with_entry, count_line, is_alone, Standing, Redefined}
+use Rattle.s66_source.specs.declared.columns.Columns.{Columns}
+use Rattle.s66_source.proofs.CharactersRead.{SpellsAll}
 use Rattle.s66_source.proofs.ReadLine.{IsLabel, inside-start}
-use Rattle.s66_source.specs.LeftAlone.{is_alone, Standing}
-use Rattle.s66_source.specs.Redefinitions.{Redefined}
 use Rattle.s66_source.proofs.FarOperands.{Fits, clear-printed, is_unclear, read-start}
 use Rattle.s66_source.proofs.Standings.{code-line, code-stays}
 use Rattle.s66_source.proofs.ReadStanding.{is_holding, not-alone, code-unflagged, continues-body, goes_on, goes-line, IsQuiet}
-use Rattle.s66_source.proofs.ReadComments.{read_at, read-as, read-class, taken-class, Comments, Passes, passes-comments, comments-append, comments-nothing, comments-quiet, quiet-behind, comments-report, AreLinesOfSource, comments-notes}
+use Rattle.s66_source.proofs.ReadComments.{read_at, read-as, read-class, taken-class, Comments, Passes, passes-comments, comments-append, comments-nothing, comments-quiet, quiet-behind}
+use Rattle.s66_source.proofs.ReadComments.{comments-report, AreLinesOfSource, comments-notes}
 use Rattle.s66_source.proofs.ReaderBlocks.{labelled, length-push}
-use Rattle.s66_line.proofs.Wholes.{is_inside}
 
 -- ENTRIES that were read
 

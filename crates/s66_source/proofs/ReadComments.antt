@@ -1,30 +1,21 @@
 -- The lines of a printed text read one by one; the report of a block and its notes change nothing.
-use Rattle.std.proofs.Common.{◌≡◌, ◌+◌, ◌%◌, ◌/◌, ◌==◌, ◌&&◌, ℕ, zero, suc, Bool, true, false, if◌then◌else◌, List, [], ◌∷◌, ◌++◌, Option, None, Some, codes, decimal, length, refl, sym, ap, ap₂, ◌∙◌, subst, arith, nat_le, nat_lt, append_assoc}
-use Rattle.std.specs.Prelude.{Result, Ok, Err}
 use Rattle.std.specs.Fmt.{digits, digits_onto, digit_glyph}
-use Rattle.std.proofs.lemmas.Bool.{and_parts, and_right, ne_eqb}
-use Rattle.std.proofs.lemmas.List.{append-nil}
-use Rattle.s66_isa.specs.Lists.{every}
-use Rattle.s66_line.specs.Fields.{is_return, lines_of, body, is_comment, continues, from_operation, label_bytes}
-use Rattle.s66_source.specs.Source.{Line, run_after, place_after, label_after, classes_from, operand_refusal}
-use Rattle.s66_line.specs.Blocks.{Block, line_of}
-use Rattle.s66_line.specs.Classes.{class_of, is_located, by_operation, is_code}
-use Rattle.s66_source.specs.LeftAlone.{Flagged, after_line, class_at, is_alone, is_continued, is_doubtful, flagged_from, Standing}
-use Rattle.s66_source.specs.Roles.{is_comment_class, is_note_of}
-use Rattle.s66_source.specs.Printed.{Placed, splits_line, bound_text, times_text, report, copied_line, notes_text}
-use Rattle.s66_source.specs.Reader.{SourceState, with_open, count_line, by_class, line_step, lines_step, and_then, read_from}
-use Rattle.s66_line.specs.declared.class.Class.{Class}
-use Rattle.s66_line.specs.declared.class.Class.TheVariants.{Comment, Other, Refused}
-use Rattle.s66_line.specs.declared.limits.TheConstants.{LINE_BYTES_LIMIT}
-use Rattle.s66_source.specs.declared.limits.TheConstants.{SOURCE_LINES_LIMIT}
-use Rattle.s66_source.specs.declared.error.SourceError.{SourceError}
-use Rattle.s66_source.specs.declared.error.SourceError.TheVariants.{LineTooLong, TooLarge}
+use Rattle.std.proofs.Common.{◌≡◌, ◌+◌, ◌%◌, ◌/◌, ◌==◌, ◌&&◌, ℕ, zero, suc, Bool, true, false, if◌then◌else◌, List, [], ◌∷◌, ◌++◌, Option, None, Some, codes, decimal, length, refl, sym, ap, ap₂, ◌∙◌}
+use Rattle.std.proofs.Common.{subst, arith, nat_le, nat_lt, append_assoc, Result, Ok, Err, ne_eqb, append-nil}
+use Rattle.std.proofs.lemmas.Bool.{and_parts, and_right}
+use Rattle.s66_isa.specs.{every}
+use Rattle.s66_line.specs.{is_return, lines_of, body, is_comment, continues, from_operation, label_bytes, Block, line_of, class_of, is_located, by_operation, is_code, Class, Comment, Other, Refused}
+use Rattle.s66_line.specs.{LINE_BYTES_LIMIT}
+use Rattle.s66_line.proofs.Wholes.{is_inside, every-append}
+use Rattle.s66_source.specs.{Line, run_after, place_after, label_after, classes_from, operand_refusal, Flagged, after_line, class_at, is_alone, is_continued, is_doubtful, flagged_from, Standing}
+use Rattle.s66_source.specs.{is_comment_class, is_note_of, Placed, splits_line, bound_text, times_text, report, copied_line, notes_text, SourceState, with_open, count_line, by_class, line_step}
+use Rattle.s66_source.specs.{lines_step, and_then, read_from, SOURCE_LINES_LIMIT, SourceError, LineTooLong, TooLarge}
 use Rattle.s66_source.proofs.FlaggedLines.{same-alone}
 use Rattle.s66_source.proofs.ReadBack.{trim-twice, lines_of-line}
-use Rattle.s66_source.proofs.ReadStanding.{flagged_at, is_holding, is_flagged, taken, not-alone, alone-body, after-body, flagged-body, class_at-body, continues-body, comment-stays, IsQuiet, goes_on, goes-line}
+use Rattle.s66_source.proofs.ReadStanding.{flagged_at, is_holding, is_flagged, taken, not-alone, alone-body, after-body, flagged-body, class_at-body, continues-body, comment-stays, IsQuiet, goes_on}
+use Rattle.s66_source.proofs.ReadStanding.{goes-line}
 use Rattle.s66_source.proofs.ReadLine.{every-trimmed}
 use Rattle.s66_source.proofs.ReaderBlocks.{then-then}
-use Rattle.s66_line.proofs.Wholes.{is_inside, every-append}
 use Rattle.s66_source.proofs.Classes.{class-tells}
 
 -- a text read after what stands

@@ -1,24 +1,20 @@
 -- An instruction line that is printed, read again.
-use Rattle.std.proofs.Common.{◌≡◌, ◌<◌, ◌≤◌, ◌+◌, ◌-◌, ◌==◌, ◌&&◌, ◌||◌, ℕ, zero, suc, Bool, true, false, not, if◌then◌else◌, true≢false, List, [], ◌∷◌, ◌++◌, Option, None, Some, is_some, option_and_then, length, replicate, refl, sym, ap, ap₂, ◌∙◌, subst, arith, eqb-true, nat_le, nat_lt, append_assoc, length-append}
-use Rattle.std.proofs.lemmas.Bool.{and_parts, and_from, or_parts, not-true, ne_eqb, lt-ltb, ltb-true, lt-leb, or_right}
+use Rattle.std.proofs.Common.{◌≡◌, ◌<◌, ◌≤◌, ◌+◌, ◌-◌, ◌==◌, ◌&&◌, ◌||◌, ℕ, zero, suc, Bool, true, false, not, if◌then◌else◌, true≢false, List, [], ◌∷◌, ◌++◌, Option, None, Some, is_some}
+use Rattle.std.proofs.Common.{option_and_then, length, replicate, refl, sym, ap, ap₂, ◌∙◌, subst, arith, eqb-true, nat_le, nat_lt, append_assoc, length-append, ne_eqb, lt-ltb, ltb-true}
+use Rattle.std.proofs.lemmas.Bool.{and_parts, and_from, or_parts, not-true, lt-leb, or_right}
 use Rattle.std.proofs.lemmas.List.{length-replicate}
 use Rattle.std.proofs.Math.Bool.{and-false}
-use Rattle.s66_isa.specs.declared.instr.Instr.{Instr}
-use Rattle.s66_isa.specs.Lists.{every}
-use Rattle.s66_line.specs.Fields.{is_blank, is_newline, is_return, trim, body, upper, skip_blanks, word, after_word, blanks, is_comment, from_location, from_operation, continues, label_bytes, is_trailing}
-use Rattle.s66_line.specs.Operand.{is_filled, operation_of, decode, instr_of}
-use Rattle.s66_line.specs.InstructionText.{operation_in, operand_in, Spells}
-use Rattle.s66_line.specs.Classes.{class_of, is_pad, is_located, by_operation, begins_run}
-use Rattle.s66_source.specs.Columns.{line_start}
-use Rattle.s66_source.specs.Printed.{label_field}
-use Rattle.s66_line.specs.declared.class.Class.TheVariants.{Instruction}
+use Rattle.s66_isa.specs.{Instr, every}
+use Rattle.s66_line.specs.{is_blank, is_newline, is_return, trim, body, upper, skip_blanks, word, after_word, blanks, is_comment, from_location, from_operation, continues, label_bytes, is_trailing}
+use Rattle.s66_line.specs.{is_filled, operation_of, decode, instr_of, operation_in, operand_in, Spells, class_of, is_pad, is_located, by_operation, begins_run, Instruction, characters_in, rest_in}
+use Rattle.s66_line.specs.{runs_on}
 use Rattle.s66_line.proofs.InstructionTexts.{is_no_blank, no_blank-word, filled-parts, word-before, after-before}
 use Rattle.s66_line.proofs.LineFields.{skip_blanks-no, from_location-no, label-no, indented_no}
 use Rattle.s66_line.proofs.NoLineEnds.{ends_no_line, EndsNoLine, spelled-ends_no_line, ends_no_line-upper}
-use Rattle.s66_source.proofs.CharactersRead.{SpellsAll, characters_in-trimmed, whole-trimmed}
-use Rattle.s66_line.specs.Characters.{characters_in, rest_in, runs_on}
-use Rattle.s66_source.proofs.ReadBack.{trim-kept, class_of_body, trim-all, every-trim, trim-within}
 use Rattle.s66_line.proofs.Wholes.{is_inside, every-append}
+use Rattle.s66_source.specs.{line_start, label_field}
+use Rattle.s66_source.proofs.CharactersRead.{SpellsAll, characters_in-trimmed, whole-trimmed}
+use Rattle.s66_source.proofs.ReadBack.{trim-kept, class_of_body, trim-all, every-trim, trim-within}
 use Rattle.s66_source.proofs.Classes.{class-tells}
 
 -- WITHOUT THE TRAILING BYTES

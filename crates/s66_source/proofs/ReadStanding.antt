@@ -1,17 +1,15 @@
 -- What stands before a line that is read again, and whether the line is left alone again.
-use Rattle.std.proofs.Common.{◌≡◌, ◌==◌, ◌-◌, ◌&&◌, ◌||◌, not, ℕ, Bool, true, false, if◌then◌else◌, true≢false, List, [], ◌∷◌, ◌++◌, codes, nat_le, nat_lt, refl, sym, ap, ap₂, ◌∙◌, arith, append_assoc, drop}
+use Rattle.std.proofs.Common.{◌≡◌, ◌==◌, ◌-◌, ◌&&◌, ◌||◌, not, ℕ, Bool, true, false, if◌then◌else◌, true≢false, List, [], ◌∷◌, ◌++◌, codes, nat_le, nat_lt, refl, sym, ap, ap₂, ◌∙◌, arith}
+use Rattle.std.proofs.Common.{append_assoc, drop, bytes_eq, eqb-true, leb-true, ne_eqb}
+use Rattle.std.proofs.lemmas.Bool.{and_parts, and_right, or_parts, or_from}
+use Rattle.s66_isa.specs.{every}
+use Rattle.s66_line.specs.{class_of, after_word, body, is_blank, is_comment, is_return, continues, operation, skip_blanks, upper, upper_byte, word, lines_of, Class}
+use Rattle.s66_line.proofs.Wholes.{is_inside}
+use Rattle.s66_source.specs.{counting_text, is_covering, Flagged, after_body, after_line, after_operation, class_at, has_operation, is_alone, is_continued, is_directive, is_held, is_switch}
+use Rattle.s66_source.specs.{is_off_switch, is_on_switch, is_doubtful, off_after, with_operation, after_directive, directive_cover, with_directive, Standing}
 use Rattle.s66_source.proofs.Directives.{no-star}
-use Rattle.std.specs.Prelude.{bytes_eq}
-use Rattle.std.proofs.lemmas.Bool.{eqb-true, leb-true, ne_eqb, and_parts, and_right, or_parts, or_from}
-use Rattle.s66_isa.specs.Lists.{every}
-use Rattle.s66_line.specs.Classes.{class_of}
-use Rattle.s66_line.specs.Fields.{after_word, body, is_blank, is_comment, is_return, continues, operation, skip_blanks, upper, upper_byte, word, lines_of}
-use Rattle.s66_line.specs.declared.class.Class.{Class}
-use Rattle.s66_source.specs.Counts.{counting_text, is_covering}
-use Rattle.s66_source.specs.LeftAlone.{Flagged, after_body, after_line, after_operation, class_at, has_operation, is_alone, is_continued, is_directive, is_held, is_switch, is_off_switch, is_on_switch, is_doubtful, off_after, with_operation, after_directive, directive_cover, with_directive, Standing}
 use Rattle.s66_source.proofs.ReadBack.{trim-twice, class_of-body, lines_of-line}
 use Rattle.s66_source.proofs.Standings.{same-off}
-use Rattle.s66_line.proofs.Wholes.{is_inside}
 
 -- a line with its switch, if it comes after what stands
 abbrev pub flagged_at : Bool → Standing → List ℕ → Bool → Flagged

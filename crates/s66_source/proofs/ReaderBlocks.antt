@@ -1,26 +1,16 @@
 -- Reading line by line gives the blocks of the definition, or its least refused line.
-use Rattle.std.proofs.Common.{◌≡◌, ◌<◌, ◌%◌, ℕ, suc, Bool, true, false, List, [], ◌∷◌, ◌++◌, length, map, refl, sym, ap, ◌∙◌, arith, append_assoc, eqb, eq-eqb, subst, ap₂}
-use Rattle.std.specs.Prelude.{Option, None, Result, Ok, Err, Some, if◌then◌else◌, nat_lt, nat_le}
-use Rattle.std.proofs.lemmas.List.{append-nil}
+use Rattle.std.proofs.Common.{◌≡◌, ◌<◌, ◌%◌, ℕ, suc, Bool, true, false, List, [], ◌∷◌, ◌++◌, length, map, refl, sym, ap, ◌∙◌, arith, append_assoc, eqb, eq-eqb, subst, ap₂, Option, None, Result, Ok}
+use Rattle.std.proofs.Common.{Err, Some, if◌then◌else◌, nat_lt, nat_le, append-nil, ne_eqb, eqb-true, true≢false, mod-eq_of_lt}
 use Rattle.std.proofs.lemmas.Nat.{mod_below}
-use Rattle.std.proofs.lemmas.Bool.{ne_eqb, eqb-false, eqb-true, true≢false}
+use Rattle.std.proofs.lemmas.Bool.{eqb-false}
 use Rattle.std.proofs.Math.Dec.{leb-suc-suc, eqb-suc-suc, eqb-suc-zero}
-use Rattle.std.proofs.Math.Nat.{suc-mod, mod-eq_of_lt}
-use Rattle.s66_isa.specs.declared.instr.Instr.{Instr}
-use Rattle.s66_line.specs.Fields.{body, from_operation, label_bytes}
-use Rattle.s66_isa.specs.declared.limits.TheConstants.{BLOCK_LIMIT}
-use Rattle.s66_line.specs.declared.limits.TheConstants.{LINE_BYTES_LIMIT}
-use Rattle.s66_source.specs.declared.limits.TheConstants.{SOURCE_LINES_LIMIT}
-use Rattle.s66_source.specs.Source.{Line, run_at, run_after, place_at, place_after, label_at, label_after, classes_from, classed_lines, operand_refusal, or_else, refusal, instructions, begins_block, put_before, parts_of, entry_of, label_in, block_of, blocks_of, unless_refused, source_of}
-use Rattle.s66_line.specs.Blocks.{Entry, Block}
-use Rattle.s66_line.specs.Classes.{is_code}
-use Rattle.s66_source.specs.LeftAlone.{Reading, Flagged, class_at, flagged_lines}
+use Rattle.std.proofs.Math.Nat.{suc-mod}
+use Rattle.s66_isa.specs.{Instr, BLOCK_LIMIT}
+use Rattle.s66_line.specs.{body, from_operation, label_bytes, LINE_BYTES_LIMIT, Entry, Block, is_code, Class, Comment, Other, Refused, Pad, Instruction}
+use Rattle.s66_source.specs.{SOURCE_LINES_LIMIT, Line, run_at, run_after, place_at, place_after, label_at, label_after, classes_from, classed_lines, operand_refusal, or_else, refusal, instructions}
+use Rattle.s66_source.specs.{begins_block, put_before, parts_of, entry_of, label_in, block_of, blocks_of, unless_refused, source_of, Reading, Flagged, class_at, flagged_lines, SourceState, Steps}
+use Rattle.s66_source.specs.{start, end_block, with_open, count_line, by_class, line_step, lines_step, and_then, read_from, SourceError, LineTooLong, TooLarge, OutOfMemory}
 use Rattle.s66_source.specs.Gives.{Gives}
-use Rattle.s66_source.specs.Reader.{SourceState, Steps, start, end_block, with_open, count_line, by_class, line_step, lines_step, and_then, read_from}
-use Rattle.s66_line.specs.declared.class.Class.{Class}
-use Rattle.s66_line.specs.declared.class.Class.TheVariants.{Comment, Other, Refused, Pad, Instruction}
-use Rattle.s66_source.specs.declared.error.SourceError.{SourceError}
-use Rattle.s66_source.specs.declared.error.SourceError.TheVariants.{LineTooLong, TooLarge, OutOfMemory}
 
 -- the lines from one on, of this class
 abbrev pub from_class : ℕ → ℕ → ℕ → List ℕ → Class → List ℕ → List Flagged → List Line

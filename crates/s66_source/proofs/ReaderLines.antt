@@ -1,11 +1,7 @@
 -- What the lines of a text make of a reader, one after the other (`take_all`).
-use Rattle.std.proofs.Common.{◌≡◌, ◌&&◌, ℕ, Bool, List, [], ◌∷◌, sym, ap, ◌∙◌}
-use Rattle.std.specs.Prelude.{Result, Ok, Err}
-use Rattle.s66_line.specs.Fields.{lines_from}
-use Rattle.s66_source.specs.LeftAlone.{Flagged, after_line, is_alone, is_continued, flagged_from, Standing}
-use Rattle.s66_source.specs.Reader.{SourceState, Steps, line_step, lines_step, and_then}
-use Rattle.s66_source.specs.declared.error.SourceError.{SourceError}
-use Rattle.s66_source.specs.declared.error.SourceError.TheVariants.{OutOfMemory}
+use Rattle.std.proofs.Common.{◌≡◌, ◌&&◌, ℕ, Bool, List, [], ◌∷◌, sym, ap, ◌∙◌, Result, Ok, Err}
+use Rattle.s66_line.specs.{lines_from}
+use Rattle.s66_source.specs.{Flagged, after_line, is_alone, is_continued, flagged_from, Standing, SourceState, Steps, line_step, lines_step, and_then, SourceError, OutOfMemory}
 use Rattle.s66_source.proofs.FlaggedLines.{flagged-found}
 
 -- a text's first line, continued or not

@@ -1,14 +1,11 @@
 -- Whether letters are in upper or in lower case doesn't change what is redefined.
-use Rattle.std.proofs.Common.{◌≡◌, ◌==◌, ◌||◌, ◌++◌, lit<, ℕ, true, false, cond, if◌then◌else◌, List, [], ◌∷◌, map, take, refl, ap, ap₂, ◌∙◌}
-use Rattle.std.specs.List.{filter}
-use Rattle.s66_isa.specs.declared.instr.Instr.{Instr}
-use Rattle.s66_line.specs.Fields.{body, is_trailing, location, trim, upper, word}
-use Rattle.s66_line.specs.InstructionText.{Spells, operand_in, operation_in}
+use Rattle.std.proofs.Common.{◌≡◌, ◌==◌, ◌||◌, ◌++◌, lit<, ℕ, true, false, cond, if◌then◌else◌, List, [], ◌∷◌, map, take, refl, ap, ap₂, ◌∙◌, filter}
+use Rattle.s66_isa.specs.{Instr}
+use Rattle.s66_line.specs.{body, is_trailing, location, trim, upper, word, Spells, operand_in, operation_in}
 use Rattle.s66_line.proofs.UpperCase.{kept, same-comment, same-continues, same-location, same-operand, same-operation, upper-trim, upper-twice, upper-word}
+use Rattle.s66_source.specs.{is_one_of, Redefined, defined_by, defined_name, form_of, forming, is_redefined, own_operation, redefined_in, renaming, is_short}
 use Rattle.s66_source.proofs.CharactersRead.{same-operand_in, same-operation_in}
 use Rattle.s66_source.proofs.ReadLine.{operand-again, operation-again}
-use Rattle.s66_source.specs.Counts.{is_one_of}
-use Rattle.s66_source.specs.Redefinitions.{Redefined, defined_by, defined_name, form_of, forming, is_redefined, own_operation, redefined_in, renaming, is_short}
 
 -- OF BYTES that begin with an operation
 

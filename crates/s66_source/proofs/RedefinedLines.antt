@@ -1,28 +1,15 @@
 -- A printed source redefines what its source does.
-use Rattle.std.proofs.Common.{◌≡◌, ◌≤◌, ◌||◌, ◌++◌, ◌-◌, ℕ, suc, Bool, true, false, true≢false, if◌then◌else◌, Option, None, Some, List, [], ◌∷◌, codes, get_or, length, map, is_some, refl, sym, ap, ap₂, subst, ◌∙◌, inl, inr, arith, append_assoc}
-use Rattle.std.specs.List.{filter}
+use Rattle.std.proofs.Common.{◌≡◌, ◌≤◌, ◌||◌, ◌++◌, ◌-◌, ℕ, suc, Bool, true, false, true≢false, if◌then◌else◌, Option, None, Some, List, [], ◌∷◌, codes, get_or, length, map, is_some, refl, sym, ap}
+use Rattle.std.proofs.Common.{ap₂, subst, ◌∙◌, inl, inr, arith, append_assoc, filter, append-nil}
 use Rattle.std.proofs.lemmas.Bool.{and_parts}
-use Rattle.std.proofs.lemmas.List.{append-nil}
-use Rattle.s66_isa.specs.Lists.{Among, every}
-use Rattle.s66_isa.specs.Table.{instr_at}
-use Rattle.s66_isa.specs.declared.instr.Instr.{Instr}
-use Rattle.s66_line.specs.Blocks.{Block, bytes_of, instrs_of}
-use Rattle.s66_line.specs.Classes.{class_of, class_of_operand, is_code, is_located, is_pad, whole_instr, ends_run}
-use Rattle.s66_line.specs.Fields.{body, continues, from_operation, is_comment, is_return, is_trailing, lines_of, trim}
-use Rattle.s66_line.specs.InstructionText.{operation_in}
-use Rattle.s66_line.specs.Operand.{operation_of}
-use Rattle.s66_line.specs.declared.class.Class.{Class}
-use Rattle.s66_line.specs.declared.class.Class.TheVariants.{Comment, Other, Refused, Pad, Instruction}
+use Rattle.s66_isa.specs.{Among, every, instr_at, Instr}
+use Rattle.s66_line.specs.{Block, bytes_of, instrs_of, class_of, class_of_operand, is_code, is_located, is_pad, whole_instr, ends_run, body, continues, from_operation, is_comment, is_return}
+use Rattle.s66_line.specs.{is_trailing, lines_of, trim, operation_in, operation_of, Class, Comment, Other, Refused, Pad, Instruction}
 use Rattle.s66_line.proofs.Wholes.{AreLines-lines_of, is_inside}
-use Rattle.s66_source.specs.Columns.{indented_lines, indents, line_start}
+use Rattle.s66_source.specs.{indented_lines, indents, line_start, is_one_of, Flagged, Reading, at_first, class_at, flagged_lines, redefined_by, Placed, copied_line, notes_text, report, Redefined}
+use Rattle.s66_source.specs.{defined_by, forming, own_operation, redefined_in, renaming, is_short, AreGiven, anew_text, begins, line_text, owner, printed_in, replaced, text_for, texts_of}
+use Rattle.s66_source.specs.{is_comment_class, is_note_of, Line, blocks_of, classed_lines, classes_from, label_after, place_after, run_after}
 use Rattle.s66_source.specs.declared.columns.Columns.{Columns}
-use Rattle.s66_source.specs.Counts.{is_one_of}
-use Rattle.s66_source.specs.LeftAlone.{Flagged, Reading, at_first, class_at, flagged_lines, redefined_by}
-use Rattle.s66_source.specs.Printed.{Placed, copied_line, notes_text, report}
-use Rattle.s66_source.specs.Redefinitions.{Redefined, defined_by, forming, own_operation, redefined_in, renaming, is_short}
-use Rattle.s66_source.specs.Replaced.{AreGiven, anew_text, begins, line_text, owner, printed_in, replaced, text_for, texts_of}
-use Rattle.s66_source.specs.Roles.{is_comment_class, is_note_of}
-use Rattle.s66_source.specs.Source.{Line, blocks_of, classed_lines, classes_from, label_after, place_after, run_after}
 use Rattle.s66_source.proofs.DefinedNames.{AreLong, defined_by-append, forming-long, nothing-more, renaming-long}
 use Rattle.s66_source.proofs.FlaggedLines.{bytes-flagged}
 use Rattle.s66_source.proofs.FarOperands.{read-start}

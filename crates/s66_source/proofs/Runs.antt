@@ -1,11 +1,11 @@
 -- Whether a run has an instruction among lines that come before and among those to come.
 use Rattle.std.proofs.Common.{◌≡◌, ◌≢◌, ◌≤◌, ◌<◌, ◌==◌, ◌&&◌, ◌||◌, ◌∙◌, ℕ, zero, suc, Bool, true, false, List, [], ◌∷◌, ◌++◌, refl, sym, ap, ap₂, arith, append_assoc, eqb, eq-eqb, if◌then◌else◌}
+use Rattle.std.proofs.Common.{ne_eqb}
 use Rattle.std.proofs.Math.Bool.{and-false, or-false}
-use Rattle.std.proofs.lemmas.Bool.{eqb-false, ne_eqb, or_right}
-use Rattle.s66_isa.specs.Lists.{some_of}
-use Rattle.s66_line.specs.Classes.{is_instruction}
-use Rattle.s66_source.specs.Roles.{has_block}
-use Rattle.s66_source.specs.Source.{Line, instructions}
+use Rattle.std.proofs.lemmas.Bool.{eqb-false, or_right}
+use Rattle.s66_isa.specs.{some_of}
+use Rattle.s66_line.specs.{is_instruction}
+use Rattle.s66_source.specs.{has_block, Line, instructions}
 use Rattle.s66_source.proofs.PrintedLines.{Ordered, run_behind, run_behind-le}
 use Rattle.s66_source.proofs.LineTexts.{some-append}
 

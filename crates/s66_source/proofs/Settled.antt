@@ -1,24 +1,15 @@
 -- What the kept lines tell of a line of an accepted source: whether a block begins in it, or it stands beside the blocks, and of which it is.
-use Rattle.std.proofs.Common.{◌≡◌, ◌≤◌, ◌<◌, ◌+◌, ◌-◌, ◌==◌, ◌&&◌, ◌||◌, ◌∙◌, not, ℕ, zero, suc, Bool, true, false, if◌then◌else◌, None, Some, List, [], ◌∷◌, ◌++◌, drop, get_or, map, nat_lt, length, refl, sym, ap, ap₂, subst, inl, inr, arith, slice_get, drop-cons, add-one}
-use Rattle.std.specs.Prelude.{Ok}
-use Rattle.std.proofs.lemmas.Bool.{cases_lt, eq-eqb, eqb-false, le-ltb, lt-ltb, ne_eqb, or_parts}
-use Rattle.s66_isa.specs.Lists.{Among, some_of, tally}
-use Rattle.s66_line.specs.Blocks.{Block, line_of}
-use Rattle.s66_line.specs.Classes.{is_instruction}
-use Rattle.s66_line.specs.Fields.{body, label_bytes}
-use Rattle.s66_line.specs.declared.class.Class.{Class}
-use Rattle.s66_line.specs.declared.class.Class.TheVariants.{Comment, Other, Refused, Pad, Instruction}
-use Rattle.s66_source.specs.Frame.{is_beside}
+use Rattle.std.proofs.Common.{◌≡◌, ◌≤◌, ◌<◌, ◌+◌, ◌-◌, ◌==◌, ◌&&◌, ◌||◌, ◌∙◌, not, ℕ, zero, suc, Bool, true, false, if◌then◌else◌, None, Some, List, [], ◌∷◌, ◌++◌, drop, get_or, map, nat_lt, length}
+use Rattle.std.proofs.Common.{refl, sym, ap, ap₂, subst, inl, inr, arith, slice_get, drop-cons, add-one, Ok, eq-eqb, le-ltb, lt-ltb, ne_eqb}
+use Rattle.std.proofs.lemmas.Bool.{cases_lt, eqb-false, or_parts}
+use Rattle.std.proofs.Math.Bool.{or-false}
+use Rattle.s66_isa.specs.{Among, some_of, tally}
+use Rattle.s66_line.specs.{Block, line_of, is_instruction, body, label_bytes, Class, Comment, Other, Refused, Pad, Instruction}
+use Rattle.s66_source.specs.{is_beside, all_of, last_of, owner_by, begins_at, has_block_by, is_beside_by, is_run, kept_line, runs_next, Flagged, Reading, class_at, flagged_lines, owner, has_block}
+use Rattle.s66_source.specs.{is_comment_class, is_dropped, is_leading, is_note, is_note_of, Line, begins_block, block_of, blocks_of, classed_lines, classes_from, entry_of, instructions, parts_of}
+use Rattle.s66_source.specs.{refusal, source_of, SOURCE_LINES_LIMIT}
 use Rattle.s66_source.specs.declared.kept.LineKind.TheVariants as kind
-use Rattle.s66_source.specs.BlockParts.{all_of}
-use Rattle.s66_source.specs.Keeper.{last_of, owner_by}
-use Rattle.s66_source.specs.Kept.{begins_at, has_block_by, is_beside_by, is_run, kept_line, runs_next}
-use Rattle.s66_source.specs.LeftAlone.{Flagged, Reading, class_at, flagged_lines}
-use Rattle.s66_source.specs.Replaced.{owner}
 use Rattle.s66_source.specs.Replaced as printed
-use Rattle.s66_source.specs.Roles.{has_block, is_comment_class, is_dropped, is_leading, is_note, is_note_of}
-use Rattle.s66_source.specs.Source.{Line, begins_block, block_of, blocks_of, classed_lines, classes_from, entry_of, instructions, parts_of, refusal, source_of}
-use Rattle.s66_source.specs.declared.limits.TheConstants.{SOURCE_LINES_LIMIT}
 use Rattle.s66_source.proofs.LineLaw.{AreFilled, Rising, Rising-behind, last_number, line_of-last, neither, no_refusal, not-note, rising-classed, rising-instructions, no-note_in, taken-line}
 use Rattle.s66_source.proofs.LineTexts.{AllFrom, AreTold, IsTold, all-from, count_after, first_of, parts_from, told-source, owned_by}
 use Rattle.s66_source.proofs.PartsLaw.{parts}
@@ -26,7 +17,6 @@ use Rattle.s66_source.proofs.PrintedLines.{Ordered, of-instructions, ordered-cla
 use Rattle.s66_source.proofs.ReadAgain.{none-refused, rest-taken}
 use Rattle.s66_source.proofs.ReaderBlocks.{fresh, from_class, behind, behind-begins, behind-put, left, put-before}
 use Rattle.s66_source.proofs.Runs.{Within, begun, block-new, block-same, first_run, has_run, has_run-first, within-more, within-new, within-same}
-use Rattle.std.proofs.Math.Bool.{or-false}
 
 -- LISTS
 

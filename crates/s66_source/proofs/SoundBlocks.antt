@@ -1,25 +1,14 @@
 -- The blocks of a source: their lines spell their instructions, and how they may be printed.
-use Rattle.std.proofs.Common.{◌≡◌, ◌≤◌, ◌==◌, ℕ, zero, suc, Bool, true, false, true≢false, if◌then◌else◌, Option, None, Some, List, [], ◌∷◌, ◌++◌, get_or, length, map, refl, sym, ap, ◌∙◌, subst, inl, inr, arith}
-use Rattle.std.specs.Prelude.{Ok}
-use Rattle.std.proofs.lemmas.Bool.{ne_eqb, eq-eqb, and_parts}
+use Rattle.std.proofs.Common.{◌≡◌, ◌≤◌, ◌==◌, ℕ, zero, suc, Bool, true, false, true≢false, if◌then◌else◌, Option, None, Some, List, [], ◌∷◌, ◌++◌, get_or, length, map, refl, sym, ap, ◌∙◌, subst, inl}
+use Rattle.std.proofs.Common.{inr, arith, Ok, ne_eqb, eq-eqb}
+use Rattle.std.proofs.lemmas.Bool.{and_parts}
 use Rattle.std.proofs.lemmas.List.{length-map}
-use Rattle.s66_isa.specs.Lists.{Among, every}
-use Rattle.s66_isa.specs.declared.instr.Instr.{Instr}
-use Rattle.s66_isa.specs.declared.limits.TheConstants.{BLOCK_LIMIT}
-use Rattle.s66_line.specs.Blocks.{Block}
-use Rattle.s66_line.specs.Classes.{begins_run, class_of, instr_in, is_code}
-use Rattle.s66_line.specs.Fields.{body, from_operation, is_return, label_bytes, lines_of}
-use Rattle.s66_line.specs.Operand.{is_filled}
-use Rattle.s66_line.specs.declared.class.Class.{Class}
-use Rattle.s66_line.specs.declared.class.Class.TheVariants.{Comment, Other, Refused, Pad, Instruction}
+use Rattle.s66_isa.specs.{Among, every, Instr, BLOCK_LIMIT}
+use Rattle.s66_line.specs.{Block, begins_run, class_of, instr_in, is_code, body, from_operation, is_return, label_bytes, lines_of, is_filled, Class, Comment, Other, Refused, Pad, Instruction}
 use Rattle.s66_line.proofs.Wholes.{AreLines-lines_of, is_inside}
-use Rattle.s66_source.specs.BlockParts.{all_of}
-use Rattle.s66_source.specs.Columns.{bytes_on, indent}
-use Rattle.s66_source.specs.LeftAlone.{Flagged, Reading, Standing, after_line, at_first, class_at, flagged_from, is_alone, is_continued, is_held, redefined_by}
-use Rattle.s66_source.specs.Printed.{Placed}
-use Rattle.s66_source.specs.Redefinitions.{Redefined}
-use Rattle.s66_source.specs.Replaced.{AreGiven, anew_text, text_for, texts_of}
-use Rattle.s66_source.specs.Source.{Line, block_of, blocks_of, classed_lines, classes_from, entry_of, instructions, label_after, label_at, label_in, parts_of, place_after, place_at, run_after, run_at, source_of}
+use Rattle.s66_source.specs.{all_of, bytes_on, indent, Flagged, Reading, Standing, after_line, at_first, class_at, flagged_from, is_alone, is_continued, is_held, redefined_by, Placed, Redefined}
+use Rattle.s66_source.specs.{AreGiven, anew_text, text_for, texts_of, Line, block_of, blocks_of, classed_lines, classes_from, entry_of, instructions, label_after, label_at, label_in, parts_of}
+use Rattle.s66_source.specs.{place_after, place_at, run_after, run_at, source_of}
 use Rattle.s66_source.specs.declared.columns.Columns.{Columns}
 use Rattle.s66_source.proofs.FarOperands.{Fits, clear-read, fits-read}
 use Rattle.s66_source.proofs.PartsLaw.{parts}

@@ -1,16 +1,9 @@
 -- A printed text that is accepted when it is read again has the blocks of its source, each as it is given.
-use Rattle.std.proofs.Common.{◌≡◌, ℕ, Bool, false, if◌then◌else◌, List, [], Option, None, get_or, length, map, refl, sym, ap, ◌∙◌, subst, arith}
-use Rattle.std.specs.Prelude.{Ok}
-use Rattle.s66_line.specs.Blocks.{Block}
-use Rattle.s66_line.specs.Fields.{lines_of}
+use Rattle.std.proofs.Common.{◌≡◌, ℕ, Bool, false, if◌then◌else◌, List, [], Option, None, get_or, length, map, refl, sym, ap, ◌∙◌, subst, arith, Ok}
+use Rattle.s66_line.specs.{Block, lines_of}
 use Rattle.s66_line.proofs.Wholes.{AreLines-lines_of}
-use Rattle.s66_source.specs.LeftAlone.{Reading, Standing, at_first, flagged_lines, redefined_by}
-use Rattle.s66_source.specs.Printed.{Placed}
-use Rattle.s66_source.specs.ReadAgain.{AreComplete, AreGivenAgain}
-use Rattle.s66_source.specs.Reader.{start}
-use Rattle.s66_source.specs.Redefinitions.{nothing_redefined}
-use Rattle.s66_source.specs.Replaced.{AreGiven, printed_in, texts_of}
-use Rattle.s66_source.specs.Source.{Line, block_of, blocks_of, classed_lines, instructions, parts_of, refusal, source_of}
+use Rattle.s66_source.specs.{Reading, Standing, at_first, flagged_lines, redefined_by, Placed, AreComplete, AreGivenAgain, start, nothing_redefined, AreGiven, printed_in, texts_of, Line, block_of}
+use Rattle.s66_source.specs.{blocks_of, classed_lines, instructions, parts_of, refusal, source_of}
 use Rattle.s66_source.specs.declared.columns.Columns.{Columns}
 use Rattle.s66_source.proofs.LineLaw.{no_refusal}
 use Rattle.s66_source.proofs.LineTexts.{told-source}

@@ -1,23 +1,13 @@
 -- Each instruction of an accepted source is spelled by its text.
-use Rattle.std.proofs.Common.{◌≡◌, ◌≤◌, ◌<◌, ℕ, zero, suc, Bool, List, [], ◌∷◌, Some, length, map, refl, sym, ap, ◌∙◌, subst, inl, inr, arith}
-use Rattle.std.specs.Prelude.{Ok, slice_get}
+use Rattle.std.proofs.Common.{◌≡◌, ◌≤◌, ◌<◌, ℕ, zero, suc, Bool, List, [], ◌∷◌, Some, length, map, refl, sym, ap, ◌∙◌, subst, inl, inr, arith, Ok, slice_get}
 use Rattle.std.proofs.lemmas.List.{length-map}
-use Rattle.s66_isa.specs.Lists.{Among}
-use Rattle.s66_isa.specs.Table.{instr_at}
+use Rattle.s66_isa.specs.{Among, instr_at, BLOCK_LIMIT}
 use Rattle.s66_isa.proofs.Lists.{among-front, among-rest}
-use Rattle.s66_line.specs.Fields.{is_return, body}
-use Rattle.s66_line.specs.InstructionText.{IsTextOf}
-use Rattle.s66_source.specs.LeftAlone.{Reading, redefined_by}
-use Rattle.s66_source.specs.Redefinitions.{Redefined}
-use Rattle.s66_source.specs.declared.columns.Columns.TheVariants.{Usual}
-use Rattle.s66_source.specs.Source.{Line, classed_lines, refusal, instructions, parts_of, entry_of, block_of, blocks_of, source_of}
-use Rattle.s66_line.specs.Blocks.{Entry, Block, instrs_of, text_of}
-use Rattle.s66_source.specs.BlockParts.{all_of}
-use Rattle.s66_isa.specs.declared.limits.TheConstants.{BLOCK_LIMIT}
-use Rattle.s66_line.specs.declared.limits.TheConstants.{LINE_BYTES_LIMIT, TEXT_LIMIT}
+use Rattle.s66_line.specs.{is_return, body, IsTextOf, Entry, Block, instrs_of, text_of, LINE_BYTES_LIMIT, TEXT_LIMIT}
 use Rattle.s66_line.proofs.BlockEntries.{instr_at-entry}
 use Rattle.s66_line.proofs.InstructionTexts.{text-of_bytes}
 use Rattle.s66_line.proofs.LineFields.{from_operation_within, trim-length}
+use Rattle.s66_source.specs.{Reading, redefined_by, Redefined, Usual, Line, classed_lines, refusal, instructions, parts_of, entry_of, block_of, blocks_of, source_of, all_of}
 use Rattle.s66_source.proofs.LineLaw.{no_refusal, none-at, taken-line}
 use Rattle.s66_source.proofs.PartsLaw.{parts}
 use Rattle.s66_source.proofs.PrintedLines.{of-instructions, accepted-is}

@@ -1,23 +1,17 @@
 -- What stands from one line to the next, and what leaves it as it is.
-use Rattle.std.proofs.Common.{◌≡◌, ◌==◌, ◌-◌, ◌&&◌, ◌||◌, inl, inr, not, ℕ, zero, suc, min, Bool, true, false, if◌then◌else◌, List, [], ◌∷◌, ◌≤◌, nat_lt, length, drop, get_or, take, codes, refl, sym, ap, ap₂, subst, ◌∙◌, arith}
-use Rattle.std.specs.Prelude.{◌⊎◌, bytes_eq}
 use Rattle.std.specs.Char.{to_ascii_uppercase}
 use Rattle.std.specs.List.{prefix_len}
+use Rattle.std.proofs.Common.{◌≡◌, ◌==◌, ◌-◌, ◌&&◌, ◌||◌, inl, inr, not, ℕ, zero, suc, min, Bool, true, false, if◌then◌else◌, List, [], ◌∷◌, ◌≤◌, nat_lt, length, drop, get_or, take, codes, refl, sym}
+use Rattle.std.proofs.Common.{ap, ap₂, subst, ◌∙◌, arith, ◌⊎◌, bytes_eq, eqb-true, ltb-false, true≢false, length-take, take-take, take_all}
 use Rattle.std.proofs.lemmas.Slice.Eq.{bytes_eq-Decides}
-use Rattle.std.proofs.lemmas.Bool.{and_parts, eqb-true, ltb-false, or_cases, or_left, or_parts, or_from, false_from_ne_true, not_from_true, true≢false}
-use Rattle.std.proofs.lemmas.List.{length-take, take-take, take_all}
-use Rattle.s66_isa.specs.Lists.{every, some_of}
-use Rattle.s66_line.specs.Classes.{class_of, is_code}
-use Rattle.s66_line.specs.Fields.{after_word, body, continues, is_blank, is_comment, is_return, operand, operation, skip_blanks, trim, upper, upper_byte, word}
+use Rattle.std.proofs.lemmas.Bool.{and_parts, or_cases, or_left, or_parts, or_from, false_from_ne_true, not_from_true}
+use Rattle.s66_isa.specs.{every, some_of}
+use Rattle.s66_line.specs.{class_of, is_code, after_word, body, continues, is_blank, is_comment, is_return, operand, operation, skip_blanks, trim, upper, upper_byte, word, Other}
 use Rattle.s66_line.proofs.LineFields.{word-length, word-take}
 use Rattle.s66_line.proofs.UpperCase.{length-upper}
-use Rattle.s66_line.specs.declared.class.Class.TheVariants.{Other}
-use Rattle.s66_source.specs.Counts.{count_down, counted_after_one, counted_after_two, counted_alone, counting_text, cover_of, covered_after, is_covering, is_one_of, nothing_covered, range_ends, repetitions_after, with_cover}
-use Rattle.s66_source.specs.LeftAlone.{after_directive, after_line, directive_cover, with_directive, after_operation, bodies_after, class_at, definitions, has_operation, is_alone, is_directive, is_held, is_switch, is_off_switch, is_on_switch, is_doubtful, with_operation, Standing}
-use Rattle.s66_source.specs.Roles.{is_comment_class}
-use Rattle.s66_source.specs.declared.cover.Cover.{Cover}
-use Rattle.s66_source.specs.declared.cover.Cover.TheVariants.{Nothing}
-use Rattle.s66_source.specs.declared.cover.Covered.{Covered}
+use Rattle.s66_source.specs.{count_down, counted_after_one, counted_after_two, counted_alone, counting_text, cover_of, covered_after, is_covering, is_one_of, nothing_covered, range_ends}
+use Rattle.s66_source.specs.{repetitions_after, with_cover, after_directive, after_line, directive_cover, with_directive, after_operation, bodies_after, class_at, definitions, has_operation, is_alone}
+use Rattle.s66_source.specs.{is_directive, is_held, is_switch, is_off_switch, is_on_switch, is_doubtful, with_operation, Standing, is_comment_class, Cover, Nothing, Covered}
 use Rattle.s66_source.proofs.Classes.{class-tells, may_be_code}
 
 -- THE NAMES of operations that cover lines, or begin or end something

@@ -1,18 +1,14 @@
 -- Letters in upper case leave what is left alone as it is.
-use Rattle.std.proofs.Common.{◌≡◌, ◌-◌, ◌&&◌, ◌||◌, ℕ, Bool, true, false, if◌then◌else◌, List, [], ◌∷◌, codes, length, map, nat_lt, refl, sym, ap, ap₂, ◌∙◌, nat_le}
-use Rattle.std.specs.Prelude.{None, bytes_eq, is_some}
-use Rattle.s66_line.specs.Classes.{by_operation, class_of, class_of_operand, is_pad, is_located}
-use Rattle.s66_line.specs.Operand.{instr_of, operation_of, is_filled}
-use Rattle.s66_source.proofs.CharactersRead.{same-operand_in, same-operation_in, same-runs_on, upper-next}
-use Rattle.s66_line.specs.Fields.{after_word, body, operation, from_operand, from_operation, skip_blanks, upper, word, continues, is_comment, label_bytes}
-use Rattle.s66_line.specs.declared.class.Class.{Class}
-use Rattle.s66_line.specs.declared.class.Class.TheVariants.{Other, Pad, Comment, Refused, Instruction}
+use Rattle.std.proofs.Common.{◌≡◌, ◌-◌, ◌&&◌, ◌||◌, ℕ, Bool, true, false, if◌then◌else◌, List, [], ◌∷◌, codes, length, map, nat_lt, refl, sym, ap, ap₂, ◌∙◌, nat_le, None, bytes_eq, is_some}
+use Rattle.s66_line.specs.{by_operation, class_of, class_of_operand, is_pad, is_located, instr_of, operation_of, is_filled, after_word, body, operation, from_operand, from_operation, skip_blanks}
+use Rattle.s66_line.specs.{upper, word, continues, is_comment, label_bytes, Class, Other, Pad, Comment, Refused, Instruction}
 use Rattle.s66_line.proofs.UpperCase.{length-upper, same-comment, same-continues, same-location, same-operation, upper-from_operation, upper-if, upper-trim, upper-twice, upper-label_bytes}
+use Rattle.s66_source.specs.{counting_text, is_covering, Flagged, after_body, after_directive, after_operation, directive_cover, has_operation, with_directive, after_line, class_at, is_alone}
+use Rattle.s66_source.specs.{is_continued, is_directive, is_switch, is_off_switch, is_on_switch, flagged_from, with_operation, is_doubtful, distance, is_far, is_held, Standing, Redefined}
+use Rattle.s66_source.specs.{is_redefined}
+use Rattle.s66_source.proofs.CharactersRead.{same-operand_in, same-operation_in, same-runs_on, upper-next}
 use Rattle.s66_source.proofs.ReadBack.{class_of_body}
-use Rattle.s66_source.specs.Counts.{counting_text, is_covering}
 use Rattle.s66_source.proofs.Directives.{same-directive, same-text}
-use Rattle.s66_source.specs.LeftAlone.{Flagged, after_body, after_directive, after_operation, directive_cover, has_operation, with_directive, after_line, class_at, is_alone, is_continued, is_directive, is_switch, is_off_switch, is_on_switch, flagged_from, with_operation, is_doubtful, distance, is_far, is_held, Standing}
-use Rattle.s66_source.specs.Redefinitions.{Redefined, is_redefined}
 use Rattle.s66_source.proofs.RedefinedCase.{redefined-upper, same-word}
 use Rattle.s66_source.proofs.ReadLine.{filled-upper}
 

@@ -1,8 +1,7 @@
 -- To be believed: how the instruction lines of a source are cut into blocks, said without the way in which it is done; the runs are those of the lines.
 use Rattle.std.specs.Prelude.{◌≡◌, ◌≤◌, List, [], ◌∷◌, ◌++◌, length}
-use Rattle.s66_isa.specs.Lists.{Among}
+use Rattle.s66_isa.specs.{Among, BLOCK_LIMIT}
 use Rattle.s66_source.specs.Source.{Line, instructions}
-use Rattle.s66_isa.specs.declared.limits.TheConstants.{BLOCK_LIMIT}
 
 abbrev pub all_of : List (List Line) → List Line
 all_of [] = []

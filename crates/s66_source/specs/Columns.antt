@@ -1,7 +1,6 @@
 -- To be believed: in which columns the operations of a block begin that is printed.
 use Rattle.std.specs.Prelude.{ℕ, ◌-◌, ◌==◌, if◌then◌else◌, min, max, List, [], ◌∷◌, ◌++◌, codes, get_or, length, map, nat_lt, replicate}
-use Rattle.s66_line.specs.Blocks.{Block, Entry, bytes_of}
-use Rattle.s66_line.specs.Fields.{body, from_operation, label_bytes, trim, is_trailing}
+use Rattle.s66_line.specs.{Block, Entry, bytes_of, body, from_operation, label_bytes, trim, is_trailing}
 use Rattle.s66_source.specs.Printed.{label_field}
 use Rattle.s66_source.specs.Source.{Line}
 use Rattle.s66_source.specs.declared.columns.Columns.{Columns}

@@ -1,8 +1,8 @@
 -- To be believed: which lines an operation of the assembler covers that counts the lines after it.
-use Rattle.std.specs.Prelude.{ℕ, zero, suc, Bool, true, false, not, ◌&&◌, ◌||◌, ◌==◌, ◌+◌, ◌*◌, ◌-◌, if◌then◌else◌, min, max, List, [], ◌∷◌, Option, None, Some, codes, length, nat_lt, bytes_eq, is_some}
-use Rattle.s66_isa.specs.Lists.{every, some_of}
-use Rattle.s66_line.specs.Characters.{is_decimal}
-use Rattle.s66_line.specs.Fields.{from_operand, is_blank, word}
+use Rattle.std.specs.Prelude.{ℕ, zero, suc, Bool, true, false, not, ◌&&◌, ◌||◌, ◌==◌, ◌+◌, ◌*◌, ◌-◌, if◌then◌else◌, min, max, List, [], ◌∷◌, Option, None, Some, codes, length, nat_lt, bytes_eq}
+use Rattle.std.specs.Prelude.{is_some}
+use Rattle.s66_isa.specs.{every, some_of}
+use Rattle.s66_line.specs.{is_decimal, from_operand, is_blank, word}
 use Rattle.s66_source.specs.declared.cover.Cover.{Cover}
 use Rattle.s66_source.specs.declared.cover.Cover.TheVariants.{Nothing, Lines, ToItsEnd}
 use Rattle.s66_source.specs.declared.cover.Covered.{Covered}

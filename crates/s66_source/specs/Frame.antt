@@ -1,12 +1,10 @@
 -- To be believed: what stands in a source beside the instructions of its blocks. Comments, remarks, and the `NO`s of runs with an instruction
 -- are no part of it.
 use Rattle.std.specs.Prelude.{ℕ, Bool, true, false, ◌&&◌, ◌||◌, ◌==◌, not, if◌then◌else◌, List, [], ◌∷◌, ◌++◌}
-use Rattle.s66_line.specs.Blocks.{Block, line_of}
-use Rattle.s66_line.specs.Fields.{from_location, trim, is_trailing}
+use Rattle.s66_line.specs.{Block, line_of, from_location, trim, is_trailing, ends_run}
 use Rattle.s66_source.specs.LeftAlone.{Reading}
 use Rattle.s66_source.specs.Roles.{has_block, is_pad_class}
 use Rattle.s66_source.specs.Source.{Line, blocks_of, classed_lines}
-use Rattle.s66_line.specs.Classes.{ends_run}
 
 -- the place of a block, or another line
 pub record FramePart : Type 0 where

@@ -1,6 +1,6 @@
 -- To be believed: how a text is parted that has two sources, an old one and a new one.
 use Rattle.std.specs.Prelude.{ℕ, Bool, ◌==◌, if◌then◌else◌, List, [], ◌∷◌, ◌++◌, Option, None, Some, codes}
-use Rattle.s66_line.specs.Fields.{body}
+use Rattle.s66_line.specs.{body}
 use Rattle.s66_source.specs.LeftAlone.{is_switch}
 
 -- a line `*S66 NEW`, written as the switches are

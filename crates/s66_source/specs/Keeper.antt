@@ -1,7 +1,6 @@
 -- Used by contracts within the crate alone: a source that is printed line by line, by the lines that are kept of it.
 use Rattle.std.specs.Prelude.{◌≡◌, ◌==◌, ℕ, zero, suc, Bool, if◌then◌else◌, List, [], ◌++◌, codes, get_or, length, map, nat_lt, slice_get, is_some, Option, None, Some, Ok}
-use Rattle.s66_line.specs.Blocks.{Block, Entry, line_of}
-use Rattle.s66_line.specs.Fields.{body}
+use Rattle.s66_line.specs.{Block, Entry, line_of, body}
 use Rattle.s66_source.specs.Columns.{indent}
 use Rattle.s66_source.specs.Kept.{KeptLine, has_block_by, kept_line}
 use Rattle.s66_source.specs.LeftAlone.{Reading}

@@ -1,10 +1,6 @@
 -- Used by contracts within the crate alone: the lines of a source as they are kept, read line by line.
 use Rattle.std.specs.Prelude.{ℕ, suc, ◌-◌, ◌==◌, if◌then◌else◌, not, Bool, true, false, List, [], ◌∷◌, ◌++◌, Option, None, Some, slice_get}
-use Rattle.s66_line.specs.Blocks.{Block, line_of}
-use Rattle.s66_line.specs.Classes.{is_code}
-use Rattle.s66_line.specs.Fields.{trim, is_trailing}
-use Rattle.s66_line.specs.declared.class.Class.{Class}
-use Rattle.s66_line.specs.declared.class.Class.TheVariants.{Comment, Other, Refused, Pad, Instruction}
+use Rattle.s66_line.specs.{Block, line_of, is_code, trim, is_trailing, Class, Comment, Other, Refused, Pad, Instruction}
 use Rattle.s66_source.specs.Frame.{FramePart, block_part}
 use Rattle.s66_source.specs.LeftAlone.{Flagged, class_at}
 use Rattle.s66_source.specs.Source.{Line, place_after, place_at, run_after, run_at}

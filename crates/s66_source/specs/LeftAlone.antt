@@ -1,13 +1,10 @@
 -- To be believed: which lines of a source are left alone. Such a line is an Other line, whatever it holds.
 use Rattle.std.specs.Prelude.{ℕ, zero, suc, Bool, true, false, not, ◌&&◌, ◌||◌, ◌==◌, ◌-◌, if◌then◌else◌, List, [], ◌∷◌, Option, None, Some, codes, drop, length, nat_le, nat_lt, bytes_eq, take}
-use Rattle.s66_line.specs.Classes.{class_of}
-use Rattle.s66_line.specs.Fields.{after_word, body, continues, from_operand, from_operation, is_blank, is_comment, label_bytes, lines_of, operation, skip_blanks, upper, word}
-use Rattle.s66_line.specs.declared.class.Class.{Class}
-use Rattle.s66_line.specs.declared.class.Class.TheVariants.{Instruction, Other, Pad, Refused}
-use Rattle.s66_line.specs.Characters.{is_decimal}
-use Rattle.s66_line.specs.Operand.{is_filled}
-use Rattle.s66_isa.specs.Lists.{every}
-use Rattle.s66_source.specs.Counts.{after_byte, after_comma, before_byte, count_down, counting_text, cover_by_numeral, cover_of, covered_after, is_covering, is_numeral, is_one_of, nothing_covered, range_ends, with_cover}
+use Rattle.s66_isa.specs.{every}
+use Rattle.s66_line.specs.{class_of, after_word, body, continues, from_operand, from_operation, is_blank, is_comment, label_bytes, lines_of, operation, skip_blanks, upper, word, Class, Instruction}
+use Rattle.s66_line.specs.{Other, Pad, Refused, is_decimal, is_filled}
+use Rattle.s66_source.specs.Counts.{after_byte, after_comma, before_byte, count_down, counting_text, cover_by_numeral, cover_of, covered_after, is_covering, is_numeral, is_one_of, nothing_covered}
+use Rattle.s66_source.specs.Counts.{range_ends, with_cover}
 use Rattle.s66_source.specs.declared.cover.Cover.{Cover}
 use Rattle.s66_source.specs.declared.cover.Cover.TheVariants.{Nothing}
 use Rattle.s66_source.specs.declared.limits.TheConstants.{DIRECTIVE_LIMIT}

@@ -2,10 +2,9 @@
 use Rattle.std.specs.Prelude.{ℕ, ◌≤◌, ◌-◌, ◌==◌, if◌then◌else◌, List, [], ◌∷◌, ◌++◌, length, replicate, codes, decimal, nat_lt, Option, None, Some}
 -- what `decimal` computes by
 unfoldable pub use Rattle.std.specs.Fmt.{digits}
-use Rattle.s66_isa.specs.Lists.{Among}
-use Rattle.s66_line.specs.Fields.{body, trim, is_trailing}
+use Rattle.s66_isa.specs.{Among}
+use Rattle.s66_line.specs.{body, trim, is_trailing, Block, bytes_of}
 use Rattle.s66_source.specs.Source.{Line}
-use Rattle.s66_line.specs.Blocks.{Block, bytes_of}
 use Rattle.s66_source.specs.Roles.{is_note_of}
 
 -- how a block is to be printed, and what is reported of it; times are in minor cycles

@@ -1,8 +1,7 @@
 -- To be believed: what the blocks of a printed source are when it is read again.
 use Rattle.std.specs.Prelude.{◌≡◌, ℕ, List, [], ◌∷◌, get_or, length, map, Option, None, Some}
-use Rattle.s66_isa.specs.Table.{instr_at}
-use Rattle.s66_line.specs.Fields.{trim, is_trailing}
-use Rattle.s66_line.specs.Blocks.{Entry, Block, instrs_of, bytes_of}
+use Rattle.s66_isa.specs.{instr_at}
+use Rattle.s66_line.specs.{trim, is_trailing, Entry, Block, instrs_of, bytes_of}
 use Rattle.s66_source.specs.Replaced.{others}
 use Rattle.s66_source.specs.Printed.{Placed}
 

@@ -1,13 +1,8 @@
 -- Used by contracts within the crate alone: a source read line by line: the blocks so far, and the instructions of the open one.
 use Rattle.std.specs.Prelude.{◌≡◌, ◌==◌, if◌then◌else◌, ℕ, suc, Bool, true, false, List, [], ◌∷◌, ◌++◌, Result, Ok, Err, nat_lt, nat_le, length}
-use Rattle.s66_isa.specs.declared.instr.Instr.{Instr}
-use Rattle.s66_line.specs.Fields.{body, from_operation, label_bytes}
-use Rattle.s66_line.specs.Blocks.{Block, Entry}
+use Rattle.s66_isa.specs.{Instr, BLOCK_LIMIT}
+use Rattle.s66_line.specs.{body, from_operation, label_bytes, Block, Entry, Class, Comment, Other, Refused, Pad, Instruction, LINE_BYTES_LIMIT}
 use Rattle.s66_source.specs.LeftAlone.{Flagged, class_at}
-use Rattle.s66_line.specs.declared.class.Class.{Class}
-use Rattle.s66_line.specs.declared.class.Class.TheVariants.{Comment, Other, Refused, Pad, Instruction}
-use Rattle.s66_isa.specs.declared.limits.TheConstants.{BLOCK_LIMIT}
-use Rattle.s66_line.specs.declared.limits.TheConstants.{LINE_BYTES_LIMIT}
 use Rattle.s66_source.specs.declared.limits.TheConstants.{SOURCE_LINES_LIMIT}
 use Rattle.s66_source.specs.declared.error.SourceError.{SourceError}
 use Rattle.s66_source.specs.declared.error.SourceError.TheVariants.{BadOperand, LineTooLong, TooLarge, OutOfMemory}

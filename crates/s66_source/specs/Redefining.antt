@@ -1,10 +1,8 @@
 -- Used by contracts within the crate alone: what lines add to what is redefined.
-use Rattle.std.specs.Prelude.{ℕ, Bool, false, ◌&&◌, ◌||◌, ◌==◌, List, [], ◌∷◌, ◌++◌, map}
+use Rattle.std.specs.Prelude.{ℕ, Bool, false, ◌&&◌, ◌||◌, ◌==◌, List, [], ◌∷◌, ◌++◌, map, Vec, filter}
 use Rattle.std.specs.declared.alloc.Global.{Global}
-use Rattle.std.specs.declared.vec.Vec.{Vec}
-use Rattle.s66_line.specs.Fields.{body}
+use Rattle.s66_line.specs.{body}
 use Rattle.s66_source.specs.Redefinitions.{Redefined, defined_by, forming, is_short, renaming}
-use Rattle.std.specs.List.{filter}
 
 abbrev pub names_in : List (Vec ℕ Global) → List (List ℕ)
 names_in names = map (λ (name : Vec ℕ Global). name.items) names

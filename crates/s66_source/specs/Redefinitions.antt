@@ -1,11 +1,7 @@
 -- To be believed: which operations and instructions a source gives another meaning, anywhere in it. Names are in upper case.
-use Rattle.std.specs.Prelude.{ℕ, Bool, true, not, ◌&&◌, ◌||◌, ◌==◌, if◌then◌else◌, List, [], ◌∷◌, ◌++◌, codes, length, map, nat_le, take}
-use Rattle.std.specs.List.{filter}
-use Rattle.s66_isa.specs.Lists.{has}
-use Rattle.s66_line.specs.Classes.{is_located}
-use Rattle.s66_line.specs.Fields.{body, continues, is_comment, location, operand, operation, upper}
-use Rattle.s66_line.specs.InstructionText.{operand_in, operation_in}
-use Rattle.s66_line.specs.Operand.{is_near, is_octal, is_sign}
+use Rattle.std.specs.Prelude.{ℕ, Bool, true, not, ◌&&◌, ◌||◌, ◌==◌, if◌then◌else◌, List, [], ◌∷◌, ◌++◌, codes, length, map, nat_le, take, filter}
+use Rattle.s66_isa.specs.{has}
+use Rattle.s66_line.specs.{is_located, body, continues, is_comment, location, operand, operation, upper, operand_in, operation_in, is_near, is_octal, is_sign}
 use Rattle.s66_source.specs.Counts.{before_byte, is_one_of}
 
 pub record Redefined : Type 0 where

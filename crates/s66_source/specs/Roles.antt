@@ -1,13 +1,9 @@
 -- To be believed: what becomes of each line of a source when its blocks are printed in another order.
-use Rattle.std.specs.Prelude.{◌&&◌, ◌||◌, ◌==◌, not, codes, ◌++◌, ℕ, Bool, true, false, List, [], ◌∷◌, length, map, nat_lt}
-use Rattle.std.specs.List.{filter}
-use Rattle.s66_isa.specs.Lists.{some_of}
-use Rattle.s66_line.specs.declared.class.Class.{Class}
-use Rattle.s66_line.specs.declared.class.Class.TheVariants.{Comment, Pad}
+use Rattle.std.specs.Prelude.{◌&&◌, ◌||◌, ◌==◌, not, codes, ◌++◌, ℕ, Bool, true, false, List, [], ◌∷◌, length, map, nat_lt, filter}
+use Rattle.s66_isa.specs.{some_of}
+use Rattle.s66_line.specs.{Class, Comment, Pad, Block, line_of, is_instruction, ends_run}
 use Rattle.s66_source.specs.LeftAlone.{Reading}
 use Rattle.s66_source.specs.Source.{Line, classed_lines, blocks_of}
-use Rattle.s66_line.specs.Blocks.{Block, line_of}
-use Rattle.s66_line.specs.Classes.{is_instruction, ends_run}
 
 abbrev pub is_comment_class : Class → Bool
 is_comment_class Comment = true

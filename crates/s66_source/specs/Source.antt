@@ -1,14 +1,8 @@
 -- To be believed: the lines of a source with their classes, its blocks, and its least refused line.
-use Rattle.std.specs.Prelude.{◌==◌, if◌then◌else◌, ℕ, suc, Bool, false, List, [], ◌∷◌, ◌%◌, Option, None, Some, Result, Ok, Err, nat_lt, length, map}
-use Rattle.std.specs.List.{filter}
-use Rattle.s66_line.specs.Fields.{body, from_operation, label_bytes}
-use Rattle.s66_line.specs.Blocks.{Entry, Block}
-use Rattle.s66_line.specs.Classes.{is_instruction, is_code, begins_run, ends_run, instr_in}
+use Rattle.std.specs.Prelude.{◌==◌, if◌then◌else◌, ℕ, suc, Bool, false, List, [], ◌∷◌, ◌%◌, Option, None, Some, Result, Ok, Err, nat_lt, length, map, filter}
+use Rattle.s66_isa.specs.{BLOCK_LIMIT}
+use Rattle.s66_line.specs.{body, from_operation, label_bytes, Entry, Block, is_instruction, is_code, begins_run, ends_run, instr_in, Class, Refused, LINE_BYTES_LIMIT}
 use Rattle.s66_source.specs.LeftAlone.{Reading, Flagged, class_at, flagged_lines}
-use Rattle.s66_line.specs.declared.class.Class.{Class}
-use Rattle.s66_line.specs.declared.class.Class.TheVariants.{Refused}
-use Rattle.s66_isa.specs.declared.limits.TheConstants.{BLOCK_LIMIT}
-use Rattle.s66_line.specs.declared.limits.TheConstants.{LINE_BYTES_LIMIT}
 use Rattle.s66_source.specs.declared.limits.TheConstants.{SOURCE_LINES_LIMIT}
 use Rattle.s66_source.specs.declared.error.SourceError.{SourceError}
 use Rattle.s66_source.specs.declared.error.SourceError.TheVariants.{BadOperand, LineTooLong, TooLarge}

@@ -1,7 +1,6 @@
 -- To be believed: what is read of a source, but for the case of letters: labels and bytes in upper case, instructions and lines as they are.
 use Rattle.std.specs.Prelude.{List, map, Result, Ok, Err}
-use Rattle.s66_line.specs.Fields.{upper}
-use Rattle.s66_line.specs.Blocks.{Entry, Block}
+use Rattle.s66_line.specs.{upper, Entry, Block}
 use Rattle.s66_source.specs.declared.error.SourceError.{SourceError}
 
 abbrev pub upper_entry : Entry → Entry

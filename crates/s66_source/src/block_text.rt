@@ -1,12 +1,9 @@
 //! The text of a block that is printed in another order: its report, and the line of each instruction.
 
 ghost use Rattle.std.specs.Prelude.{ℕ, ◌≡◌, ◌≤◌, ◌-◌, ◌++◌, codes, get_or, length, option_map, slice_get, OnOk};
-ghost use Rattle.s66_isa.specs.Lists.{Among};
-ghost use Rattle.s66_line.specs.Fields.{body};
-ghost use Rattle.s66_source.specs.Columns.{indented_line, indented_lines, line_start};
-ghost use Rattle.s66_source.specs.Keeper.{indents_by, note_in};
-ghost use Rattle.s66_source.specs.Printed.{bound_text, splits_line, times_text, report, label_field};
-ghost use Rattle.s66_isa.specs.declared.limits.TheConstants.{BLOCK_LIMIT};
+ghost use Rattle.s66_isa.specs.{Among, BLOCK_LIMIT};
+ghost use Rattle.s66_line.specs.{body};
+ghost use Rattle.s66_source.specs.{indented_line, indented_lines, line_start, indents_by, note_in, bound_text, splits_line, times_text, report, label_field};
 
 use crate::columns::{Columns, USUAL_INDENT};
 use crate::kept::{KeptLine, LineKind, bytes_at};

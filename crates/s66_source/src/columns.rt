@@ -1,8 +1,8 @@
 //! In which column an operation is printed: column 11, or that of its line in the source.
 
 ghost use Rattle.std.specs.Prelude.{◌≡◌, length, nat_lt, not};
-ghost use Rattle.s66_line.specs.Fields.{body, label_bytes};
-ghost use Rattle.s66_source.specs.Columns.{before_operation};
+ghost use Rattle.s66_line.specs.{body, label_bytes};
+ghost use Rattle.s66_source.specs.{before_operation};
 
 use s66_line::{body_of, fields_of};
 
@@ -42,7 +42,7 @@ pub enum Columns {
 
 impl Columns {
     ghost use Rattle.std.specs.Prelude.{◌≡◌};
-    ghost use Rattle.s66_source.specs.Columns.{indent};
+    ghost use Rattle.s66_source.specs.{indent};
 
     /// How many blanks come before the operation of an instruction, by its line in the source.
     pub(crate) fn indent(&self, line: &[u8]) -> u8

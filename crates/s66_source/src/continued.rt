@@ -1,8 +1,8 @@
 //! Lines that are continued: a comma stands in column 1 of the next line that is no comment.
 
 ghost use Rattle.std.specs.Prelude.{◌≡◌, ◌&&◌, ◌∷◌, []};
-ghost use Rattle.s66_line.specs.Fields.{lines_from};
-ghost use Rattle.s66_source.specs.LeftAlone.{is_continued};
+ghost use Rattle.s66_line.specs.{lines_from};
+ghost use Rattle.s66_source.specs.{is_continued};
 
 use crate::lines::cut_line;
 use s66_line::{body_of, is_comment_line, is_continuation};

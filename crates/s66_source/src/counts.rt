@@ -2,11 +2,10 @@
 
 ghost use Rattle.std.specs.Prelude.{ℕ, List, ◌≡◌, ◌≤◌, map, min, true, Some, None, option_map, length};
 ghost use Rattle.std.specs.Borrow.{Bor};
-ghost use Rattle.s66_isa.specs.Lists.{every};
-ghost use Rattle.s66_line.specs.Characters.{is_decimal};
-ghost use Rattle.s66_line.specs.Fields.{is_blank};
-ghost use Rattle.s66_source.specs.Counts.{after_byte, after_comma, before_byte, counting_text, cover_after_strings, cover_after_third, cover_by_count, cover_by_numeral, cover_by_strings, cover_of, is_numeral, is_one_of, spelled_after, strings_in};
-ghost use Rattle.s66_source.specs.declared.limits.TheConstants.{SOURCE_LINES_LIMIT};
+ghost use Rattle.s66_isa.specs.{every};
+ghost use Rattle.s66_line.specs.{is_decimal, is_blank};
+ghost use Rattle.s66_source.specs.{after_byte, after_comma, before_byte, counting_text, cover_after_strings, cover_after_third, cover_by_count, cover_by_numeral, cover_by_strings, cover_of};
+ghost use Rattle.s66_source.specs.{is_numeral, is_one_of, spelled_after, strings_in, SOURCE_LINES_LIMIT};
 
 use crate::cover::Cover;
 use crate::limits::SOURCE_LINES_LIMIT;

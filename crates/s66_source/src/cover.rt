@@ -1,7 +1,7 @@
 //! What is still covered by counts and repetitions, from one line to the next. What one operation covers is in `counts.rt`.
 
 ghost use Rattle.std.specs.Prelude.{◌≡◌};
-ghost use Rattle.s66_source.specs.Counts.{repetitions_after};
+ghost use Rattle.s66_source.specs.{repetitions_after};
 
 use crate::counts::{RANGE_ENDS, is_one_of};
 use crate::limits::SOURCE_LINES_LIMIT;
@@ -18,7 +18,7 @@ pub enum Cover {
 
 impl Cover {
     ghost use Rattle.std.specs.Prelude.{◌≡◌};
-    ghost use Rattle.s66_source.specs.Counts.{is_counting, lines_covered};
+    ghost use Rattle.s66_source.specs.{is_counting, lines_covered};
 
     /// This many lines.
     pub(crate) fn of_lines(count: u32) -> Cover
@@ -52,7 +52,7 @@ pub struct Covered {
 
 impl Covered {
     ghost use Rattle.std.specs.Prelude.{◌≡◌};
-    ghost use Rattle.s66_source.specs.Counts.{count_down, covered_after, is_covering, nothing_covered, with_cover};
+    ghost use Rattle.s66_source.specs.{count_down, covered_after, is_covering, nothing_covered, with_cover};
 
     /// Nothing.
     pub(crate) fn nothing() -> Covered

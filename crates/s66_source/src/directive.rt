@@ -1,12 +1,10 @@
 //! Directives to programs that keep libraries of sources, as UPDATE and MODIFY. They are comments with a star in column 1.
 
 ghost use Rattle.std.specs.Prelude.{◌≡◌, ◌≤◌, ◌-◌, ◌==◌, ◌||◌, length, take};
-ghost use Rattle.s66_isa.specs.Lists.{every};
-ghost use Rattle.s66_line.specs.Characters.{is_decimal};
-ghost use Rattle.s66_line.specs.Fields.{upper, upper_byte, word};
-ghost use Rattle.s66_source.specs.LeftAlone.{are_places, corrects, directive_cover, directs, is_brief, is_correction, is_directive, is_letter, is_place, operand_behind, separates, skip_separators};
-ghost use Rattle.s66_source.specs.declared.limits.TheConstants.{DIRECTIVE_LIMIT};
-ghost use Rattle.s66_line.specs.declared.limits.TheConstants.{LINE_BYTES_LIMIT};
+ghost use Rattle.s66_isa.specs.{every};
+ghost use Rattle.s66_line.specs.{is_decimal, upper, upper_byte, word, LINE_BYTES_LIMIT};
+ghost use Rattle.s66_source.specs.{are_places, corrects, directive_cover, directs, is_brief, is_correction, is_directive, is_letter, is_place, operand_behind, separates, skip_separators};
+ghost use Rattle.s66_source.specs.{DIRECTIVE_LIMIT};
 
 use crate::counts::{
     after_byte, after_comma, before_byte, cover_by_numeral, is_blank, is_numeral, is_one_of,

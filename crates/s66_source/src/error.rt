@@ -1,8 +1,8 @@
 //! The errors of reading a source, and the line that reports each.
 
 ghost use Rattle.std.specs.Prelude.{◌≡◌, ◌<◌, length};
+ghost use Rattle.s66_device.specs.{FAULT_ROOM};
 ghost use Rattle.s66_source.specs.declared.error.SourceError.TheVariants.{OutOfMemory};
-ghost use Rattle.s66_device.specs.declared.limits.TheConstants.{FAULT_ROOM};
 
 use arrayvec::ArrayString;
 use s66_device::{FAULT_ROOM, line_refusal, short_text};
@@ -44,7 +44,7 @@ impl<T: Drop> From<AllocFailed<T>> for SourceError {
 
 impl SourceError {
     ghost use Rattle.std.specs.Prelude.{◌≡◌, ◌<◌, length};
-    ghost use Rattle.s66_source.specs.Refusals.{refusal_line};
+    ghost use Rattle.s66_source.specs.{refusal_line};
 
     /// The line that reports it, without a newline.
     pub fn line(&self) -> ArrayString<FAULT_ROOM>

@@ -1,11 +1,8 @@
 //! The frame of a source: the places of its blocks, and all lines that stand beside them, for `compare`.
 
-ghost use Rattle.std.specs.Prelude.{◌≡◌, ◌<◌, ◌++◌, suc, if◌then◌else◌, option_map, slice_get, IfOk, OnOk};
-ghost use Rattle.std.specs.Option.{option_to_list};
-ghost use Rattle.s66_line.specs.Fields.{from_location};
-ghost use Rattle.s66_source.specs.Frame.{block_part, frame_of};
-ghost use Rattle.s66_source.specs.Kept.{begins_at, is_beside_by, part_by};
-ghost use Rattle.s66_source.specs.declared.limits.TheConstants.{SOURCE_LINES_LIMIT};
+ghost use Rattle.std.specs.Prelude.{◌≡◌, ◌<◌, ◌++◌, suc, if◌then◌else◌, option_map, slice_get, IfOk, OnOk, option_to_list};
+ghost use Rattle.s66_line.specs.{from_location};
+ghost use Rattle.s66_source.specs.{block_part, frame_of, begins_at, is_beside_by, part_by, SOURCE_LINES_LIMIT};
 
 use crate::kept::{KeptLine, LineKind, begins_at, count_after, first_line, has_block};
 use crate::source::Source;

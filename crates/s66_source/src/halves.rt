@@ -1,7 +1,7 @@
 //! The two sources of an input of `compare`, with a line `*S66 NEW` between them.
 
 ghost use Rattle.std.specs.Prelude.{◌≡◌};
-ghost use Rattle.s66_source.specs.Halves.{halves_of, is_new_mark};
+ghost use Rattle.s66_source.specs.{halves_of, is_new_mark};
 
 use crate::standing::is_switch;
 use memchr::memchr;

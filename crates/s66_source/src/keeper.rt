@@ -2,8 +2,7 @@
 //! `block_text.rt`.
 
 ghost use Rattle.std.specs.Prelude.{◌≡◌, IfOk};
-ghost use Rattle.s66_source.specs.Replaced.{AreGiven, printed_in};
-ghost use Rattle.s66_source.specs.Source.{blocks_of, classed_lines};
+ghost use Rattle.s66_source.specs.{AreGiven, printed_in, blocks_of, classed_lines};
 
 use crate::block_text::{push_copied, push_indented, push_note, push_report};
 use crate::columns::Columns;
@@ -40,15 +39,10 @@ impl<'s, 'a> Model for Keeper<'s, 'a> {
 
 impl<'s, 'a> Keeper<'s, 'a> {
     ghost use Rattle.std.specs.Prelude.{ℕ, suc, if◌then◌else◌, ◌≡◌, ◌≤◌, ◌<◌, ◌^◌, ◌++◌, None, Some, MatchOption, is_some, length, map, option_map, slice_get, IfOk, IfSome, OnOk};
-    ghost use Rattle.s66_isa.specs.Lists.{Among};
-    ghost use Rattle.s66_source.specs.Keeper.{IsKeeper, block_at, last_of, owner_by, placed_of, text_by, text_in, whole_text};
-    ghost use Rattle.s66_source.specs.Kept.{kept_line};
-    ghost use Rattle.s66_line.specs.Blocks.{Block as BlockOf};
-    ghost use Rattle.s66_source.specs.Columns.{indented_lines, indents};
-    ghost use Rattle.s66_source.specs.Printed.{Placed as PlacedOf, notes_text};
-    ghost use Rattle.s66_source.specs.Replaced.{anew_text};
-    ghost use Rattle.s66_source.specs.Source.{blocks_of, classed_lines};
-    ghost use Rattle.s66_source.specs.declared.limits.TheConstants.{SOURCE_LINES_LIMIT};
+    ghost use Rattle.s66_isa.specs.{Among};
+    ghost use Rattle.s66_source.specs.{IsKeeper, block_at, last_of, owner_by, placed_of, text_by, text_in, whole_text, kept_line, indented_lines, indents, Placed as PlacedOf, notes_text, anew_text};
+    ghost use Rattle.s66_source.specs.{blocks_of, classed_lines, SOURCE_LINES_LIMIT};
+    ghost use Rattle.s66_line.specs.{Block as BlockOf};
 
     /// The blocks of the source.
     fn blocks(&self) -> &'s [Block<'a>]

@@ -1,11 +1,8 @@
 //! The lines of a source as they are kept: the bytes of each, what of its class printing has to know, and where it stands in its run.
 
 ghost use Rattle.std.specs.Prelude.{◌≡◌, ◌<◌, suc, if◌then◌else◌, length, option_map};
-ghost use Rattle.s66_line.specs.Blocks.{line_of};
-ghost use Rattle.s66_line.specs.Classes.{begins_run};
-ghost use Rattle.s66_source.specs.Keeper.{bytes_at};
-ghost use Rattle.s66_source.specs.Kept.{begins_at, has_block_by, kind_of, runs_next};
-ghost use Rattle.s66_source.specs.declared.limits.TheConstants.{SOURCE_LINES_LIMIT};
+ghost use Rattle.s66_line.specs.{line_of, begins_run};
+ghost use Rattle.s66_source.specs.{bytes_at, begins_at, has_block_by, kind_of, runs_next, SOURCE_LINES_LIMIT};
 
 use s66_line::{Block, Class};
 use std::alloc::{AllocError, Global};
@@ -88,8 +85,7 @@ fn begins_run(class: &Class) -> bool
 
 impl<'a> Kept<'a> {
     ghost use Rattle.std.specs.Prelude.{◌≡◌, ◌<◌, OnOk};
-    ghost use Rattle.s66_source.specs.Kept.{nothing_kept, put_line};
-    ghost use Rattle.s66_source.specs.declared.limits.TheConstants.{SOURCE_LINES_LIMIT};
+    ghost use Rattle.s66_source.specs.{nothing_kept, put_line, SOURCE_LINES_LIMIT};
 
     pub(crate) fn new(alloc: Global) -> Kept<'a>
         ensures { result ≡ nothing_kept }

@@ -1,30 +1,13 @@
 //! Laws and worked examples of reading, of lines that are left alone, of printing, and of reading again what was printed.
 
 ghost use Rattle.std.specs.Prelude.{◌≡◌, ◌≤◌, ℕ, List, Option, ◌∷◌, ◌++◌, Some, None, Ok, Err, ◌≢◌, Bool, true, false, map, length, codes, [], not, replicate, slice_get};
-ghost use Rattle.s66_isa.specs.Table.{instr, instr_at};
-ghost use Rattle.s66_isa.specs.Lists.{Among, tally, every};
-ghost use Rattle.s66_isa.specs.declared.instr.Instr.{Instr};
-ghost use Rattle.s66_line.specs.Fields.{is_newline, upper, body, from_operation, lines_of, trim, is_trailing};
-ghost use Rattle.s66_line.specs.InstructionText.{IsTextOf, Spells};
-ghost use Rattle.s66_line.specs.declared.class.Class.TheVariants.{Instruction};
-ghost use Rattle.s66_source.specs.Columns.{indent, indented_lines, indents};
+ghost use Rattle.s66_isa.specs.{instr, instr_at, Among, tally, every, Instr, BLOCK_LIMIT};
+ghost use Rattle.s66_line.specs.{is_newline, upper, body, from_operation, lines_of, trim, is_trailing, IsTextOf, Spells, Instruction, Block, instrs_of, text_of, constants_in, runs_on, class_of};
+ghost use Rattle.s66_line.specs.{is_instruction};
+ghost use Rattle.s66_source.specs.{indent, indented_lines, indents, Own, Usual, upper_read, cover_of, Flagged, Reading, flagged_lines, is_directive, is_off_switch, plain, BadOperand, Nothing, Lines};
+ghost use Rattle.s66_source.specs.{ToItsEnd, Line, classed_lines, instructions, parts_of, blocks_of, source_of, AreParts, Placed, instruction_lines, label_field, AreComplete, AreGivenAgain, AreGiven};
+ghost use Rattle.s66_source.specs.{owner, printed_in, is_note, is_note_of, is_dropped, is_copied, roles, lines_that, mixed_source, outside_source};
 ghost use Rattle.s66_source.specs.declared.columns.Columns.{Columns};
-ghost use Rattle.s66_source.specs.declared.columns.Columns.TheVariants.{Own, Usual};
-ghost use Rattle.s66_source.specs.UpperRead.{upper_read};
-ghost use Rattle.s66_source.specs.Counts.{cover_of};
-ghost use Rattle.s66_source.specs.LeftAlone.{Flagged, Reading, flagged_lines, is_directive, is_off_switch, plain};
-ghost use Rattle.s66_source.specs.declared.error.SourceError.TheVariants.{BadOperand};
-ghost use Rattle.s66_source.specs.declared.cover.Cover.TheVariants.{Nothing, Lines, ToItsEnd};
-ghost use Rattle.s66_source.specs.Source.{Line, classed_lines, instructions, parts_of, blocks_of, source_of};
-ghost use Rattle.s66_line.specs.Blocks.{Block, instrs_of, text_of, constants_in};
-ghost use Rattle.s66_line.specs.Characters.{runs_on};
-ghost use Rattle.s66_line.specs.Classes.{class_of, is_instruction};
-ghost use Rattle.s66_isa.specs.declared.limits.TheConstants.{BLOCK_LIMIT};
-ghost use Rattle.s66_source.specs.BlockParts.{AreParts};
-ghost use Rattle.s66_source.specs.Printed.{Placed, instruction_lines, label_field};
-ghost use Rattle.s66_source.specs.ReadAgain.{AreComplete, AreGivenAgain};
-ghost use Rattle.s66_source.specs.Replaced.{AreGiven, owner, printed_in};
-ghost use Rattle.s66_source.specs.Roles.{is_note, is_note_of, is_dropped, is_copied, roles, lines_that, mixed_source, outside_source};
 
 /// Lower case reads as upper case. Texts that differ only in the case of letters have the same blocks but for the case of letters
 /// in what is stored of their lines, or the same refusal.

@@ -1,7 +1,7 @@
 //! The first line of a text cut off at its newline (`cut_line`), by which all readers of sources go on.
 
 ghost use Rattle.std.specs.Prelude.{◌≡◌, ◌<◌, [], ◌∷◌, IfSome, IfNone, length};
-ghost use Rattle.s66_line.specs.Fields.{lines_from};
+ghost use Rattle.s66_line.specs.{lines_from};
 
 use memchr::memchr;
 

@@ -1,11 +1,9 @@
 //! A quick look at an operation's name: whether it may cover, begin or end something, which most don't.
 
 ghost use Rattle.std.specs.Prelude.{ℕ, List, [], ◌∷◌, ◌≡◌, ◌≤◌, ◌==◌, ◌||◌, true, false, bytes_eq, codes};
-ghost use Rattle.s66_isa.specs.Lists.{every};
-ghost use Rattle.s66_line.specs.Fields.{upper, upper_byte, word};
-ghost use Rattle.s66_source.specs.Counts.{count_down, is_one_of};
-ghost use Rattle.s66_source.specs.LeftAlone.{after_operation, has_operation};
-ghost use Rattle.s66_source.specs.LeftAlone.{Standing};
+ghost use Rattle.s66_isa.specs.{every};
+ghost use Rattle.s66_line.specs.{upper, upper_byte, word};
+ghost use Rattle.s66_source.specs.{count_down, is_one_of, after_operation, has_operation, Standing};
 
 use s66_line::{is_comment_line, is_continuation};
 

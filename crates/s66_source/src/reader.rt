@@ -2,16 +2,10 @@
 //! that is neither code nor a comment.
 
 ghost use Rattle.std.specs.Prelude.{◌≡◌, ◌≤◌, ◌<◌, [], length, OnOk};
-ghost use Rattle.s66_line.specs.Fields.{lines_from};
-ghost use Rattle.s66_line.specs.InstructionText.{Spells};
-ghost use Rattle.s66_source.specs.Kept.{put_line, put_lines};
-ghost use Rattle.s66_source.specs.Reader.{Steps, end_block, begin_run, with_entry, by_class, line_step, lines_step};
-ghost use Rattle.s66_line.specs.Classes.{IsSpelled, is_code};
-ghost use Rattle.s66_source.specs.SourceReader.{flagged, state};
-ghost use Rattle.s66_source.specs.LeftAlone.{after_line, class_at, flagged_from};
-ghost use Rattle.s66_isa.specs.declared.limits.TheConstants.{BLOCK_LIMIT};
-ghost use Rattle.s66_source.specs.declared.limits.TheConstants.{SOURCE_LINES_LIMIT};
-ghost use Rattle.s66_line.specs.declared.limits.TheConstants.{TEXT_LIMIT};
+ghost use Rattle.s66_isa.specs.{BLOCK_LIMIT};
+ghost use Rattle.s66_line.specs.{lines_from, Spells, IsSpelled, is_code, TEXT_LIMIT};
+ghost use Rattle.s66_source.specs.{put_line, put_lines, Steps, end_block, begin_run, with_entry, by_class, line_step, lines_step, flagged, state, after_line, class_at, flagged_from};
+ghost use Rattle.s66_source.specs.{SOURCE_LINES_LIMIT};
 
 use crate::continued::{is_continued, is_continued_at_first};
 use crate::error::SourceError;

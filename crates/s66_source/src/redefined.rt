@@ -1,16 +1,11 @@
 //! Operations and instructions that a source gives another meaning, anywhere in it, by `MACRO`, `OPSYN`, `OPDEF` and the like: such
 //! lines are left alone with `--cut`.
 
-ghost use Rattle.std.specs.Prelude.{ℕ, List, ◌≡◌, ◌≤◌, ◌<◌, ◌+◌, ◌++◌, ◌==◌, [], ◌∷◌, OnOk, IfSome, IfNone, codes, false, length, map, replicate, take, true};
-ghost use Rattle.std.specs.List.{filter};
-ghost use Rattle.s66_isa.specs.Lists.{has};
-ghost use Rattle.s66_line.specs.Fields.{body, continues, from_operation, is_comment, lines_of, upper, word};
-ghost use Rattle.s66_line.specs.Operand.{is_sign};
-ghost use Rattle.s66_source.specs.Counts.{is_one_of};
-ghost use Rattle.s66_source.specs.LeftAlone.{has_operation};
-ghost use Rattle.s66_source.specs.Redefinitions.{defined_name, ends_name, form_in, form_of, forming, is_bank, is_in_name, is_redefined, is_short, letters_of, nothing_redefined, own_operation, redefined_in, renaming};
-ghost use Rattle.s66_source.specs.Redefining.{names_in, one_begins_so};
-ghost use Rattle.s66_line.specs.declared.limits.TheConstants.{TEXT_LIMIT};
+ghost use Rattle.std.specs.Prelude.{ℕ, List, ◌≡◌, ◌≤◌, ◌<◌, ◌+◌, ◌++◌, ◌==◌, [], ◌∷◌, OnOk, IfSome, IfNone, codes, false, length, map, replicate, take, true, filter};
+ghost use Rattle.s66_isa.specs.{has};
+ghost use Rattle.s66_line.specs.{body, continues, from_operation, is_comment, lines_of, upper, word, is_sign, TEXT_LIMIT};
+ghost use Rattle.s66_source.specs.{is_one_of, has_operation, defined_name, ends_name, form_in, form_of, forming, is_bank, is_in_name, is_redefined, is_short, letters_of, nothing_redefined};
+ghost use Rattle.s66_source.specs.{own_operation, redefined_in, renaming, names_in, one_begins_so};
 
 use crate::counts::{before_byte, is_one_of};
 use crate::lines::cut_line;
@@ -294,13 +289,8 @@ impl Model for Redefined {
 
 impl Redefined {
     ghost use Rattle.std.specs.Prelude.{◌≡◌, ◌≤◌, ◌∷◌, ◌||◌, [], OnOk, IfOk, false, length};
-    ghost use Rattle.s66_line.specs.Fields.{body, continues, from_operation, is_comment, lines_of};
-    ghost use Rattle.s66_source.specs.LeftAlone.{redefined_by};
-    ghost use Rattle.s66_line.specs.InstructionText.{operation_in};
-    ghost use Rattle.s66_source.specs.Counts.{is_one_of};
-    ghost use Rattle.s66_source.specs.Redefinitions.{form_in, is_redefined, nothing_redefined, redefined_in};
-    ghost use Rattle.s66_source.specs.Redefining.{with_bodies, with_lines};
-    ghost use Rattle.s66_line.specs.declared.limits.TheConstants.{TEXT_LIMIT};
+    ghost use Rattle.s66_line.specs.{body, continues, from_operation, is_comment, lines_of, operation_in, TEXT_LIMIT};
+    ghost use Rattle.s66_source.specs.{redefined_by, is_one_of, form_in, is_redefined, nothing_redefined, redefined_in, with_bodies, with_lines};
 
     /// None.
     pub fn nothing(alloc: Global) -> Redefined

@@ -1,9 +1,8 @@
 //! A source that was read: its text, its blocks, and its lines (`read_source`, `read_source_with`).
 
 ghost use Rattle.std.specs.Prelude.{◌≡◌, [], IfOk};
-ghost use Rattle.s66_source.specs.Source.{classed_lines, blocks_of, source_of};
+ghost use Rattle.s66_source.specs.{classed_lines, blocks_of, source_of, plain};
 ghost use Rattle.s66_source.specs.Gives.{Gives};
-ghost use Rattle.s66_source.specs.LeftAlone.{plain};
 
 use crate::error::SourceError;
 use crate::kept::{Kept, KeptLine};
@@ -39,8 +38,7 @@ impl<'a> Model for Source<'a> {
 
 impl<'a> Source<'a> {
     ghost use Rattle.std.specs.Prelude.{◌≡◌, Ok, map};
-    ghost use Rattle.s66_source.specs.Kept.{kept_line};
-    ghost use Rattle.s66_source.specs.Source.{classed_lines, source_of};
+    ghost use Rattle.s66_source.specs.{kept_line, classed_lines, source_of};
 
     /// The blocks, in the order of their lines.
     pub fn blocks(&self) -> &[Block<'a>]

@@ -2,13 +2,9 @@
 //! operand that isn't seen. It is a state that each line moves on, which `reader.rt`, `frame.rt` and `s66_lint` share.
 
 ghost use Rattle.std.specs.Prelude.{◌≡◌, ◌≤◌, ◌<◌, ◌&&◌, ◌||◌, suc, false, if◌then◌else◌, true, bytes_eq, codes, length, take};
-ghost use Rattle.s66_line.specs.Classes.{IsSpelled, class_of, is_code};
-ghost use Rattle.s66_line.specs.Fields.{body, from_operation, is_comment, label_bytes, operation, upper};
-ghost use Rattle.s66_source.specs.Counts.{counting_text};
-ghost use Rattle.s66_source.specs.Roles.{is_comment_class};
-ghost use Rattle.s66_source.specs.LeftAlone.{after_line, has_operation, after_operation, at_first, bodies_after, class_at, is_alone, is_directive, is_doubtful, is_far, is_held, is_switch, with_directive, with_operation};
-ghost use Rattle.s66_line.specs.declared.limits.TheConstants.{LINE_BYTES_LIMIT, TEXT_LIMIT};
-ghost use Rattle.s66_source.specs.declared.limits.TheConstants.{SOURCE_LINES_LIMIT};
+ghost use Rattle.s66_line.specs.{IsSpelled, class_of, is_code, body, from_operation, is_comment, label_bytes, operation, upper, LINE_BYTES_LIMIT, TEXT_LIMIT};
+ghost use Rattle.s66_source.specs.{counting_text, is_comment_class, after_line, has_operation, after_operation, at_first, bodies_after, class_at, is_alone, is_directive, is_doubtful, is_far, is_held};
+ghost use Rattle.s66_source.specs.{is_switch, with_directive, with_operation, SOURCE_LINES_LIMIT};
 
 use crate::counts::{RANGE_ENDS, counting_text, cover_of, is_one_of};
 use crate::cover::Covered;
@@ -181,7 +177,6 @@ pub fn is_far(body: &[u8]) -> bool
 }
 
 impl<'r> Standing<'r> {
-    ghost use Rattle.std.specs.Prelude.{◌≡◌, ◌≤◌, ◌<◌, ◌&&◌, ◌||◌, suc, false, if◌then◌else◌, true, bytes_eq, codes, length, take};
     /// Before the first line of a source that redefines this.
     pub fn at_first(redefined: &'r Redefined) -> Standing<'r>
         ensures { result ≡ at_first redefined.now }

@@ -1,6 +1,5 @@
 use Rattle.std.proofs.Common.{◌∙◌, ap}
-use Rattle.s66_source.specs.Columns.{indent}
-use Rattle.s66_source.specs.Keeper.{bytes_at}
+use Rattle.s66_source.specs.{indent, bytes_at}
 use Rattle.s66_source.proofs.KeptLines.{indent-at}
 use Rattle.s66_source.proofs.block_text.indent_of.Goals as goal
 

@@ -1,6 +1,5 @@
 use Rattle.std.proofs.Common.{◌≡◌, ◌++◌, drop}
-use Rattle.s66_source.specs.Columns.{indented_lines}
-use Rattle.s66_source.specs.Keeper.{indents_by}
+use Rattle.s66_source.specs.{indented_lines, indents_by}
 use Rattle.s66_source.proofs.block_text.push_indented.Given as goal
 
 -- the lines so far, and then those of the other numbers, are those of all

@@ -1,6 +1,6 @@
 use Rattle.std.proofs.Common.{◌≡◌, ◌≤◌, [], length}
-use Rattle.s66_line.specs.Fields.{lines_from}
-use Rattle.s66_source.specs.LeftAlone.{is_continued}
+use Rattle.s66_line.specs.{lines_from}
+use Rattle.s66_source.specs.{is_continued}
 use Rattle.s66_source.proofs.continued.begins_continued.Given as goal
 
 -- the rest goes on if all of it does

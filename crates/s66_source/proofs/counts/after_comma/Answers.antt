@@ -1,7 +1,5 @@
-use Rattle.std.proofs.Common.{◌≡◌, List, ℕ, Option, subst}
-use Rattle.std.specs.Borrow.{Bor}
-use Rattle.std.specs.Prelude.{option_map}
-use Rattle.s66_source.specs.Counts.{after_byte}
+use Rattle.std.proofs.Common.{◌≡◌, List, ℕ, Option, subst, Bor, option_map}
+use Rattle.s66_source.specs.{after_byte}
 use Rattle.s66_source.proofs.Counted.{after_comma-some, after_comma-none}
 use Rattle.s66_source.proofs.counts.after_comma.Goals as goal
 

@@ -1,6 +1,6 @@
 use Rattle.std.proofs.Common.{◌∙◌, arith}
-use Rattle.s66_line.specs.Characters.{is_decimal}
-use Rattle.s66_source.specs.declared.limits.TheConstants.{SOURCE_LINES_LIMIT}
+use Rattle.s66_line.specs.{is_decimal}
+use Rattle.s66_source.specs.{SOURCE_LINES_LIMIT}
 use Rattle.s66_source.proofs.Counted.{next-digit, every-next}
 use Rattle.s66_source.proofs.counts.capped_number.Goals as goal
 

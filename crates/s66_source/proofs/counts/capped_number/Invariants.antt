@@ -1,8 +1,7 @@
 use Rattle.std.proofs.Common.{◌≡◌, ◌≤◌, drop, min, true}
-use Rattle.s66_isa.specs.Lists.{every}
-use Rattle.s66_line.specs.Characters.{is_decimal}
-use Rattle.s66_source.specs.Counts.{spelled_after}
-use Rattle.s66_source.specs.declared.limits.TheConstants.{SOURCE_LINES_LIMIT}
+use Rattle.s66_isa.specs.{every}
+use Rattle.s66_line.specs.{is_decimal}
+use Rattle.s66_source.specs.{spelled_after, SOURCE_LINES_LIMIT}
 use Rattle.s66_source.proofs.counts.capped_number.Given as goal
 
 -- the digits so far, capped, and then those of the rest spell the number of all, capped

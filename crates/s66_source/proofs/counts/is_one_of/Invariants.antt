@@ -1,6 +1,5 @@
-use Rattle.std.proofs.Common.{ℕ, List, ◌≡◌, drop, map}
-use Rattle.std.specs.Borrow.{Bor}
-use Rattle.s66_source.specs.Counts.{is_one_of}
+use Rattle.std.proofs.Common.{ℕ, List, ◌≡◌, drop, map, Bor}
+use Rattle.s66_source.specs.{is_one_of}
 use Rattle.s66_source.proofs.counts.is_one_of.Given as goal
 
 abbrev pub invariant-loop-name : goal.invariant-loop-name

@@ -1,7 +1,7 @@
 use Rattle.std.proofs.Common.{◌≡◌, ◌==◌, ◌||◌, drop}
-use Rattle.s66_isa.specs.Lists.{every}
-use Rattle.s66_line.specs.Characters.{is_decimal}
-use Rattle.s66_source.specs.LeftAlone.{is_letter}
+use Rattle.s66_isa.specs.{every}
+use Rattle.s66_line.specs.{is_decimal}
+use Rattle.s66_source.specs.{is_letter}
 use Rattle.s66_source.proofs.directive.are_name_bytes.Given as goal
 
 abbrev pub invariant-loop-byte : goal.invariant-loop-byte

@@ -1,5 +1,5 @@
 use Rattle.std.proofs.Common.{◌≡◌, ◌≤◌, ◌-◌, drop, length}
-use Rattle.s66_source.specs.LeftAlone.{skip_separators}
+use Rattle.s66_source.specs.{skip_separators}
 use Rattle.s66_source.proofs.directive.without_separators.Given as goal
 
 -- what was passed so far are blanks and commas

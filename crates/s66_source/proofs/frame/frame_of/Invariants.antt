@@ -1,6 +1,5 @@
 use Rattle.std.proofs.Common.{drop, map}
-use Rattle.s66_source.specs.Kept.{kept_line}
-use Rattle.s66_source.specs.Source.{classed_lines}
+use Rattle.s66_source.specs.{kept_line, classed_lines}
 use Rattle.s66_source.proofs.Frames.{IsFramed}
 use Rattle.s66_source.proofs.frame.frame_of.Given as goal
 

@@ -1,7 +1,7 @@
 use Rattle.std.proofs.Common.{ℕ, Bool, true, false, List, ◌≡◌, ◌+◌, ◌-◌, ◌∙◌, Option, length, drop, take, ap, subst, sym, arith, length-drop}
 use Rattle.std.proofs.lemmas.List.{take_rest}
 use Rattle.s66_line.proofs.LineCuts.{IsFirstNewline}
-use Rattle.s66_source.specs.Halves.{is_new_mark}
+use Rattle.s66_source.specs.{is_new_mark}
 use Rattle.s66_source.proofs.HalvesFound.{last-mark, last-other, mark-here, mark-later}
 use Rattle.s66_source.proofs.halves.halves_of.Goals as goal
 

@@ -1,5 +1,5 @@
 use Rattle.std.proofs.Common.{◌≡◌, ◌≤◌, ◌-◌, [], length, take, drop}
-use Rattle.s66_source.specs.Halves.{halves_from, halves_of}
+use Rattle.s66_source.specs.{halves_from, halves_of}
 use Rattle.s66_source.proofs.halves.halves_of.Given as goal
 
 -- no line so far is a mark

@@ -1,5 +1,4 @@
-use Rattle.std.proofs.Common.{◌∙◌, ap, sym}
-use Rattle.std.specs.Prelude.{Ok}
+use Rattle.std.proofs.Common.{◌∙◌, ap, sym, Ok}
 use Rattle.s66_source.proofs.PrintedLines.{accepted-is}
 use Rattle.s66_source.proofs.keeper.print_source.Goals as goal
 

@@ -1,5 +1,5 @@
 use Rattle.std.proofs.Common.{◌∙◌, ap, append_assoc, ◌∷◌, []}
-use Rattle.s66_line.specs.Fields.{lines_of}
+use Rattle.s66_line.specs.{lines_of}
 use Rattle.s66_source.proofs.ReadBack.{class_of-body, lines_of-line}
 use Rattle.s66_source.proofs.laws.copied_law.Goals as goal
 

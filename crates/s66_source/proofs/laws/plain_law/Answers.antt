@@ -1,7 +1,6 @@
 use Rattle.std.proofs.Common.{refl}
-use Rattle.s66_line.specs.Fields.{lines_of}
-use Rattle.s66_source.specs.LeftAlone.{at_first}
-use Rattle.s66_source.specs.Redefinitions.{nothing_redefined}
+use Rattle.s66_line.specs.{lines_of}
+use Rattle.s66_source.specs.{at_first, nothing_redefined}
 use Rattle.s66_source.proofs.CutLaw.{none-alone}
 use Rattle.s66_source.proofs.laws.plain_law.Goals as goal
 

@@ -1,7 +1,7 @@
 use Rattle.std.proofs.Common.{ℕ, ◌≡◌, ◌+◌, ◌∙◌, List, [], ◌∷◌, length, refl, subst, sym}
 use Rattle.std.proofs.lemmas.Bool.{eqb-false}
 use Rattle.std.proofs.lemmas.List.{take_rest}
-use Rattle.s66_line.specs.Fields.{last_line}
+use Rattle.s66_line.specs.{last_line}
 use Rattle.s66_line.proofs.LineCuts.{IsFirstNewline, lines_from-found, last-none}
 use Rattle.s66_source.proofs.lines.cut_line.Goals as goal
 

@@ -1,6 +1,6 @@
 use Rattle.std.proofs.Common.{◌≡◌, ◌==◌, drop}
-use Rattle.s66_isa.specs.Lists.{every}
-use Rattle.s66_line.specs.Fields.{upper_byte}
+use Rattle.s66_isa.specs.{every}
+use Rattle.s66_line.specs.{upper_byte}
 use Rattle.s66_source.proofs.operation.is_upper_case.Given as goal
 
 abbrev pub invariant-loop-byte : goal.invariant-loop-byte

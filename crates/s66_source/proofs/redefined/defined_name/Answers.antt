@@ -1,6 +1,6 @@
 use Rattle.std.proofs.Common.{◌==◌, length, sym, ap, ◌∙◌}
-use Rattle.s66_line.specs.Fields.{operand, upper, word}
-use Rattle.s66_source.specs.Counts.{before_byte}
+use Rattle.s66_line.specs.{operand, upper, word}
+use Rattle.s66_source.specs.{before_byte}
 use Rattle.s66_source.proofs.DefinedNames.{named-macro, upper-before}
 use Rattle.s66_source.proofs.redefined.defined_name.Goals as goal
 

@@ -1,5 +1,4 @@
-use Rattle.std.proofs.Common.{sym, arith, take_all}
-use Rattle.std.proofs.lemmas.List.{length-take}
+use Rattle.std.proofs.Common.{sym, arith, take_all, length-take}
 use Rattle.s66_source.proofs.redefined.first_two.Goals as goal
 
 pub slice_bounds-result-end : goal.slice_bounds-result-end

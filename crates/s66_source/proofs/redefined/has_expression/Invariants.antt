@@ -1,6 +1,6 @@
 use Rattle.std.proofs.Common.{◌≡◌, length}
-use Rattle.s66_isa.specs.Lists.{has}
-use Rattle.s66_source.specs.Redefinitions.{letters_of}
+use Rattle.s66_isa.specs.{has}
+use Rattle.s66_source.specs.{letters_of}
 use Rattle.s66_source.proofs.redefined.has_expression.Given as goal
 
 -- what was passed so far is no expression

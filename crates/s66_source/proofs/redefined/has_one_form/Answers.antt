@@ -1,9 +1,6 @@
 use Rattle.std.proofs.Common.{◌++◌, ◌∙◌, ap, sym, take}
-use Rattle.s66_line.specs.Fields.{upper}
-use Rattle.s66_line.specs.InstructionText.{operand_in}
-use Rattle.s66_source.specs.Counts.{is_one_of}
-use Rattle.s66_source.specs.Redefinitions.{form_of}
-use Rattle.s66_source.specs.Redefining.{names_in}
+use Rattle.s66_line.specs.{upper, operand_in}
+use Rattle.s66_source.specs.{is_one_of, form_of, names_in}
 use Rattle.s66_source.proofs.redefined.has_one_form.Goals as goal
 
 pub returns-then-not-may_have_form : goal.returns-then-not-may_have_form

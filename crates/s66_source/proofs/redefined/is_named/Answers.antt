@@ -1,6 +1,5 @@
 use Rattle.std.proofs.Common.{◌∙◌, ap, sym}
-use Rattle.s66_source.specs.Counts.{is_one_of}
-use Rattle.s66_source.specs.Redefining.{names_in}
+use Rattle.s66_source.specs.{is_one_of, names_in}
 use Rattle.s66_source.proofs.Standings.{upper-same}
 use Rattle.s66_source.proofs.redefined.is_named.Goals as goal
 

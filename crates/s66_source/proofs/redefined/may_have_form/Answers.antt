@@ -1,5 +1,5 @@
 use Rattle.std.proofs.Common.{◌∙◌, ap₂, sym}
-use Rattle.s66_source.specs.Redefining.{names_in, one_begins_so}
+use Rattle.s66_source.specs.{names_in, one_begins_so}
 use Rattle.s66_source.proofs.DefinedNames.{no-form}
 use Rattle.s66_source.proofs.redefined.may_have_form.Goals as goal
 

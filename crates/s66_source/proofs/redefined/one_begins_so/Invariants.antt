@@ -1,5 +1,5 @@
 use Rattle.std.proofs.Common.{◌≡◌, drop}
-use Rattle.s66_source.specs.Redefining.{names_in, one_begins_so}
+use Rattle.s66_source.specs.{names_in, one_begins_so}
 use Rattle.s66_source.proofs.redefined.one_begins_so.Given as goal
 
 abbrev pub invariant-loop-name : goal.invariant-loop-name

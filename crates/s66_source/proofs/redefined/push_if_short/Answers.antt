@@ -1,6 +1,5 @@
-use Rattle.std.proofs.Common.{◌++◌, ◌∙◌, ap, arith, sym}
-use Rattle.std.proofs.lemmas.List.{append-nil}
-use Rattle.s66_source.specs.Redefining.{names_in}
+use Rattle.std.proofs.Common.{◌++◌, ◌∙◌, ap, arith, sym, append-nil}
+use Rattle.s66_source.specs.{names_in}
 use Rattle.s66_source.proofs.DefinedNames.{no-short, one-short}
 use Rattle.s66_source.proofs.redefined.push_if_short.Goals as goal
 

@@ -1,6 +1,6 @@
 use Rattle.std.proofs.Common.{◌≡◌, ◌≤◌, ◌+◌, ◌++◌, length}
-use Rattle.s66_line.specs.declared.limits.TheConstants.{TEXT_LIMIT}
-use Rattle.s66_source.specs.Redefinitions.{letters_of}
+use Rattle.s66_line.specs.{TEXT_LIMIT}
+use Rattle.s66_source.specs.{letters_of}
 use Rattle.s66_source.proofs.redefined.push_letters.Given as goal
 
 -- the letters so far, and then those of the rest, are those of all

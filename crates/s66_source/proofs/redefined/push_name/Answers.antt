@@ -1,7 +1,7 @@
 use Rattle.std.proofs.Common.{[], ◌∷◌, ◌++◌, ap, ◌∙◌}
 use Rattle.std.proofs.lemmas.List.{map-append}
+use Rattle.s66_source.specs.{names_in}
 use Rattle.s66_source.proofs.DefinedNames.{upper-letters}
-use Rattle.s66_source.specs.Redefining.{names_in}
 use Rattle.s66_source.proofs.redefined.push_name.Goals as goal
 
 pub returns : goal.returns

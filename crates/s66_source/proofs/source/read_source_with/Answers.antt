@@ -1,9 +1,7 @@
 use Rattle.std.proofs.Common.{false, refl, ap, ◌∙◌}
 use Rattle.std.proofs.lemmas.Result.{err_from_is_err_and}
-use Rattle.s66_source.specs.LeftAlone.{Reading, flagged_lines}
-use Rattle.s66_source.specs.Kept.{Kept, put_lines}
-use Rattle.s66_source.specs.SourceReader.{state}
-use Rattle.s66_source.specs.Source.{classed_lines, blocks_of}
+use Rattle.s66_source.specs.{Reading, flagged_lines, put_lines, state, classed_lines, blocks_of}
+use Rattle.s66_source.specs.Kept.{Kept}
 use Rattle.s66_source.proofs.ReaderBlocks.{source-blocks, Gives-accepted, Gives-refusal}
 use Rattle.s66_source.proofs.KeptRead.{kept-read}
 use Rattle.s66_source.proofs.source.read_source_with.Goals as goal

@@ -1,8 +1,7 @@
-use Rattle.std.proofs.Common.{length, sym, ap, ◌∙◌}
-use Rattle.std.specs.Prelude.{bytes_eq}
-use Rattle.std.proofs.lemmas.Bool.{false_from_ne_true, ne_eqb}
+use Rattle.std.proofs.Common.{length, sym, ap, ◌∙◌, bytes_eq, ne_eqb}
+use Rattle.std.proofs.lemmas.Bool.{false_from_ne_true}
 use Rattle.std.proofs.lemmas.Slice.Eq.{bytes_eq-Decides}
-use Rattle.s66_line.specs.Fields.{upper}
+use Rattle.s66_line.specs.{upper}
 use Rattle.s66_line.proofs.UpperCase.{length-upper}
 use Rattle.s66_source.proofs.standing.is_name.Goals as goal
 

@@ -1,7 +1,5 @@
 use Rattle.std.proofs.Common.{◌++◌, drop, map}
-use Rattle.s66_source.specs.Keeper.{whole_text}
-use Rattle.s66_source.specs.Kept.{kept_line}
-use Rattle.s66_source.specs.Source.{classed_lines}
+use Rattle.s66_source.specs.{whole_text, kept_line, classed_lines}
 use Rattle.s66_source.proofs.KeptLines.{IsPrinting}
 use Rattle.s66_source.proofs.keeper.Keeper.print_all.Given as goal
 

@@ -1,6 +1,6 @@
 use Rattle.std.proofs.Common.{◌∙◌, ap, subst}
-use Rattle.s66_isa.specs.Lists.{Among}
-use Rattle.s66_source.specs.Printed.{Placed}
+use Rattle.s66_isa.specs.{Among}
+use Rattle.s66_source.specs.{Placed}
 use Rattle.s66_source.proofs.keeper.Keeper.push_anew.Goals as goal
 
 pub push_order-requires : goal.push_order-requires

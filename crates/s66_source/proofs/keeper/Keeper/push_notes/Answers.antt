@@ -1,7 +1,5 @@
-use Rattle.std.proofs.Common.{◌++◌, ◌∙◌, ℕ, List, ap, arith, drop, sym}
-use Rattle.std.proofs.lemmas.List.{append-nil}
-use Rattle.s66_source.specs.Printed.{notes_text}
-use Rattle.s66_source.specs.Source.{classed_lines}
+use Rattle.std.proofs.Common.{◌++◌, ◌∙◌, ℕ, List, ap, arith, drop, sym, append-nil}
+use Rattle.s66_source.specs.{notes_text, classed_lines}
 use Rattle.s66_source.proofs.KeptLines.{notes-first, notes-last, notes-step}
 use Rattle.s66_source.proofs.keeper.Keeper.push_notes.Goals as goal
 

@@ -1,7 +1,6 @@
 use Rattle.std.proofs.Common.{◌≡◌, ◌≤◌, ◌-◌, ◌++◌, drop}
-use Rattle.s66_line.specs.Blocks.{line_of}
-use Rattle.s66_source.specs.Printed.{notes_text}
-use Rattle.s66_source.specs.Source.{classed_lines}
+use Rattle.s66_line.specs.{line_of}
+use Rattle.s66_source.specs.{notes_text, classed_lines}
 use Rattle.s66_source.proofs.keeper.Keeper.push_notes.Given as goal
 
 -- the notes so far, and then those in the lines that are left, are all

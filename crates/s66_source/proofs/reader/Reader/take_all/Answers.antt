@@ -1,9 +1,6 @@
 use Rattle.std.proofs.Common.{sym, ap, ◌∙◌, arith}
 use Rattle.std.proofs.lemmas.Result.{err_from_is_err_and}
-use Rattle.s66_source.specs.LeftAlone.{flagged_from}
-use Rattle.s66_source.specs.Kept.{put_lines}
-use Rattle.s66_source.specs.Reader.{lines_step}
-use Rattle.s66_source.specs.SourceReader.{state}
+use Rattle.s66_source.specs.{flagged_from, put_lines, lines_step, state}
 use Rattle.s66_source.proofs.FlaggedLines.{flagged-found}
 use Rattle.s66_source.proofs.ReaderLines.{lines_step-found, Steps-found}
 use Rattle.s66_source.proofs.reader.Reader.take_all.Goals as goal

@@ -1,11 +1,7 @@
 use Rattle.std.proofs.Common.{◌≡◌, ◌&&◌, ◌≤◌, ◌<◌, [], length}
-use Rattle.s66_isa.specs.declared.limits.TheConstants.{BLOCK_LIMIT}
-use Rattle.s66_source.specs.declared.limits.TheConstants.{SOURCE_LINES_LIMIT}
-use Rattle.s66_line.specs.Fields.{lines_from}
-use Rattle.s66_source.specs.LeftAlone.{flagged_from, is_continued}
-use Rattle.s66_source.specs.Kept.{put_lines}
-use Rattle.s66_source.specs.Reader.{lines_step}
-use Rattle.s66_source.specs.SourceReader.{state}
+use Rattle.s66_isa.specs.{BLOCK_LIMIT}
+use Rattle.s66_line.specs.{lines_from}
+use Rattle.s66_source.specs.{SOURCE_LINES_LIMIT, flagged_from, is_continued, put_lines, lines_step, state}
 use Rattle.s66_source.proofs.reader.Reader.take_all.Given as goal
 
 -- the lines so far, and then those of the rest, are those of all

@@ -1,6 +1,6 @@
 use Rattle.std.proofs.Common.{◌≡◌, [], length}
-use Rattle.s66_line.specs.Fields.{lines_from}
-use Rattle.s66_source.specs.Redefining.{with_lines}
+use Rattle.s66_line.specs.{lines_from}
+use Rattle.s66_source.specs.{with_lines}
 use Rattle.s66_source.proofs.redefined.Redefined.take_all.Given as goal
 
 -- what the lines so far define, and then those of the rest, is what all define

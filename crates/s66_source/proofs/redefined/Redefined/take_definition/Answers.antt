@@ -1,5 +1,5 @@
 use Rattle.std.proofs.Common.{ℕ, List, ◌<◌, subst, sym, ap, ◌∙◌, length}
-use Rattle.s66_line.specs.Fields.{word}
+use Rattle.s66_line.specs.{word}
 use Rattle.s66_source.proofs.DefinedNames.{long-adds-nothing}
 use Rattle.s66_source.proofs.redefined.Redefined.take_definition.Goals as goal
 

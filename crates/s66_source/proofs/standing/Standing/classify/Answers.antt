@@ -1,6 +1,6 @@
 use Rattle.std.proofs.Common.{◌&&◌, ◌∙◌, sym, ap}
-use Rattle.s66_source.specs.LeftAlone.{is_doubtful}
-use Rattle.s66_line.specs.Fields.{body}
+use Rattle.s66_line.specs.{body}
+use Rattle.s66_source.specs.{is_doubtful}
 use Rattle.s66_source.proofs.OpenLines.{open-line, doubted-line}
 use Rattle.s66_source.proofs.standing.Standing.classify.Goals as goal
 

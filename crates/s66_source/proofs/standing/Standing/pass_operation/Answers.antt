@@ -1,7 +1,7 @@
 use Rattle.std.proofs.Common.{arith, ap, ap₂, length, sym, ◌∙◌}
-use Rattle.s66_line.specs.Fields.{upper, word}
+use Rattle.s66_line.specs.{upper, word}
 use Rattle.s66_line.proofs.LineFields.{from_operation_within}
-use Rattle.s66_source.specs.LeftAlone.{after_operation}
+use Rattle.s66_source.specs.{after_operation}
 use Rattle.s66_source.proofs.Counted.{counting_text-length}
 use Rattle.s66_source.proofs.Standings.{upper-same}
 use Rattle.s66_source.proofs.standing.Standing.pass_operation.Goals as goal

@@ -1,11 +1,7 @@
-use Rattle.std.proofs.Common.{◌≡◌, ◌≤◌, ◌∙◌, ◌||◌, ℕ, suc, subst, Bool, true, false, List, if◌then◌else◌, codes, take, sym, ap}
-use Rattle.std.specs.Prelude.{bytes_eq}
+use Rattle.std.proofs.Common.{◌≡◌, ◌≤◌, ◌∙◌, ◌||◌, ℕ, suc, subst, Bool, true, false, List, if◌then◌else◌, codes, take, sym, ap, bytes_eq}
 use Rattle.std.proofs.lemmas.Bool.{or_parts}
-use Rattle.s66_line.specs.Classes.{class_of, is_code}
-use Rattle.s66_line.specs.Fields.{upper}
-use Rattle.s66_line.specs.declared.class.Class.TheVariants.{Other}
-use Rattle.s66_source.specs.LeftAlone.{after_line, class_at, is_alone, Standing}
-use Rattle.s66_source.specs.Roles.{is_comment_class}
+use Rattle.s66_line.specs.{class_of, is_code, upper, Other}
+use Rattle.s66_source.specs.{after_line, class_at, is_alone, Standing, is_comment_class}
 use Rattle.s66_source.proofs.Standings.{bodies-grow, outside-alone, outside-after, settled-stays}
 use Rattle.s66_source.proofs.standing.Standing.take.Goals as goal
 
