@@ -1,12 +1,9 @@
 -- Whether `--cut` leaves each line of a text alone, one line after the other.
-use Rattle.std.proofs.Common.{◌≡◌, ◌<◌, ◌≤◌, ◌+◌, ◌-◌, ℕ, zero, suc, Bool, true, false, List, [], ◌∷◌, ◌++◌, length, take, nat_lt, refl, ap, ◌∙◌, arith, append_assoc, length-append, sym, if◌then◌else◌}
-use Rattle.std.proofs.lemmas.List.{append-nil}
-use Rattle.s66_line.specs.Fields.{lines_from}
-use Rattle.s66_line.specs.declared.limits.TheConstants.{LINE_BYTES_LIMIT}
-use Rattle.s66_source.specs.LeftAlone.{after_line, is_alone, is_continued}
-use Rattle.s66_source.specs.LeftAlone.{Standing}
-use Rattle.s66_lint.specs.Marks.{alone_from, as_read}
-use Rattle.std.proofs.lemmas.Bool.{ltb-false}
+use Rattle.std.proofs.Common.{◌≡◌, ◌<◌, ◌≤◌, ◌+◌, ◌-◌, ℕ, zero, suc, Bool, true, false, List, [], ◌∷◌, ◌++◌, length, take, nat_lt, refl, ap, ◌∙◌, arith, append_assoc, length-append, sym}
+use Rattle.std.proofs.Common.{if◌then◌else◌, append-nil, ltb-false}
+use Rattle.s66_line.specs.{lines_from, LINE_BYTES_LIMIT}
+use Rattle.s66_source.specs.{after_line, is_alone, is_continued, Standing}
+use Rattle.s66_lint.specs.{alone_from, as_read}
 
 -- the first line of a text, and then those after it
 pub alone_from-found : (s : Standing) (text line more : List ℕ) (continued : Bool) → lines_from [] text ≡ line ∷ lines_from [] more → continued ≡ is_continued (lines_from [] more) →

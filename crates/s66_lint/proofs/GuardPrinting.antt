@@ -1,15 +1,14 @@
 -- A source is printed with switches around the lines that `guard` marks, line by line, with the reasons of each switch.
-use Rattle.std.proofs.Common.{◌≡◌, ◌≤◌, ◌||◌, ◌&&◌, ◌++◌, ◌∷◌, ℕ, Bool, true, false, not, List, [], length, map, refl, sym, ap, ◌∙◌, arith, append_assoc}
-use Rattle.std.proofs.lemmas.List.{append-nil, length-map}
-use Rattle.s66_isa.specs.Lists.{tally}
+use Rattle.std.proofs.Common.{◌≡◌, ◌≤◌, ◌||◌, ◌&&◌, ◌++◌, ◌∷◌, ℕ, Bool, true, false, not, List, [], length, map, refl, sym, ap, ◌∙◌, arith, append_assoc, append-nil}
+use Rattle.std.proofs.lemmas.List.{length-map}
+use Rattle.s66_isa.specs.{tally}
 use Rattle.s66_isa.proofs.Lists.{tally-append}
-use Rattle.s66_line.specs.Fields.{body, lines_from, lines_of}
-use Rattle.s66_source.specs.LeftAlone.{Flagged, flagged_from, is_alone, is_off_switch, is_on_switch, off_after}
+use Rattle.s66_line.specs.{body, lines_from, lines_of}
+use Rattle.s66_source.specs.{Flagged, flagged_from, is_alone, is_off_switch, is_on_switch, off_after}
 use Rattle.s66_source.proofs.FlaggedLines.{flagged-found}
-use Rattle.s66_lint.specs.Guarded.{Begins, IsGuard, Kept, Mark, GuardedLine, beginnings, between, guarded_bytes, guarded_lines, is_end, is_guarded, marked_line, marked_lines, guarded_text, written_from}
-use Rattle.s66_lint.specs.LineMarks.{Finishes, GainsLines, first_mark, later_marks, mark_of, marks_of}
+use Rattle.s66_lint.specs.{Begins, IsGuard, Kept, Mark, GuardedLine, beginnings, between, guarded_bytes, guarded_lines, is_end, is_guarded, marked_line, marked_lines, guarded_text, written_from}
+use Rattle.s66_lint.specs.{Finishes, GainsLines, first_mark, later_marks, mark_of, marks_of, LineMark}
 use Rattle.s66_lint.specs.declared.guard.guard.Guarded.{Guarded}
-use Rattle.s66_lint.specs.declared.guard.marks.LineMark.{LineMark}
 use Rattle.s66_lint.proofs.SwitchedLines.{standing}
 
 -- THE TEXT of lines

@@ -1,28 +1,21 @@
 -- The lines of a source with switches around those that are marked, read again.
-use Rattle.std.proofs.Common.{◌≡◌, ◌==◌, ◌||◌, ◌&&◌, ℕ, zero, suc, Bool, true, false, not, cond, if◌then◌else◌, List, [], ◌∷◌, ◌++◌, map, drop, take, Some, refl, sym, ap, ap₂, ◌∙◌}
-use Rattle.std.specs.Prelude.{slice_get, option_map}
-use Rattle.std.specs.List.{take_while, filter}
+use Rattle.std.proofs.Common.{◌≡◌, ◌==◌, ◌||◌, ◌&&◌, ℕ, zero, suc, Bool, true, false, not, cond, if◌then◌else◌, List, [], ◌∷◌, ◌++◌, map, drop, take, Some, refl, sym, ap, ap₂, ◌∙◌, slice_get}
+use Rattle.std.proofs.Common.{option_map, take_while, filter}
 use Rattle.std.proofs.lemmas.Bool.{and_parts, and_from}
 use Rattle.std.proofs.lemmas.List.Sums.{take_while-cons}
 use Rattle.std.proofs.lemmas.Option.{slice_get-map}
-use Rattle.s66_isa.specs.Lists.{every}
-use Rattle.s66_line.specs.Classes.{class_of}
-use Rattle.s66_line.specs.Fields.{body, continues, is_comment, is_newline, is_trailing, lines_of, operation, upper}
+use Rattle.s66_isa.specs.{every}
+use Rattle.s66_line.specs.{class_of, body, continues, is_comment, is_newline, is_trailing, lines_of, operation, upper}
 use Rattle.s66_line.proofs.Wholes.{AreLines-lines_of}
-use Rattle.s66_source.specs.Counts.{counting_text, is_one_of, with_cover}
-use Rattle.s66_source.specs.LeftAlone.{Flagged, Reading, after_line, after_operation, at_first, directive_cover, flagged_from, flagged_lines, has_operation, is_alone, is_continued, is_directive, is_doubtful, is_off_switch, is_on_switch, off_after, plain, redefined_by, with_directive}
-use Rattle.s66_source.specs.declared.cover.Covered.{Covered}
-use Rattle.s66_source.specs.Redefinitions.{Redefined, defined_by, forming, is_short, nothing_redefined, redefined_in, renaming}
-use Rattle.s66_source.specs.Replaced.{owner}
-use Rattle.s66_source.specs.Source.{Line, classed_lines}
-use Rattle.s66_source.specs.LeftAlone.{Standing}
+use Rattle.s66_source.specs.{counting_text, is_one_of, with_cover, Flagged, Reading, after_line, after_operation, at_first, directive_cover, flagged_from, flagged_lines, has_operation, is_alone}
+use Rattle.s66_source.specs.{is_continued, is_directive, is_doubtful, is_off_switch, is_on_switch, off_after, plain, redefined_by, with_directive, Covered, Redefined, defined_by, forming, is_short}
+use Rattle.s66_source.specs.{nothing_redefined, redefined_in, renaming, owner, Line, classed_lines, Standing}
 use Rattle.s66_source.proofs.DefinedNames.{defined_by-append}
 use Rattle.s66_source.proofs.FlaggedLines.{bytes-flagged}
 use Rattle.s66_source.proofs.ReadLine.{every-trimmed}
 use Rattle.s66_source.proofs.AloneLines.{alone-none}
-use Rattle.s66_lint.specs.Guarded.{Begins, Ends, Kept, Mark, MarkedLine, GuardedLine, beginnings, between, guarded_bytes, flag_of, guarded, guarded_flags, guarded_lines, is_left_alone, marked_line, marked_lines, read_flags, shown_reason, source_lines, unmarked, written_from}
-use Rattle.s66_lint.specs.Listing.{after_blank}
-use Rattle.s66_lint.specs.declared.guard.guard.TheConstants.{REASON_LIMIT}
+use Rattle.s66_lint.specs.{Begins, Ends, Kept, Mark, MarkedLine, GuardedLine, beginnings, between, guarded_bytes, flag_of, guarded, guarded_flags, guarded_lines, is_left_alone, marked_line}
+use Rattle.s66_lint.specs.{marked_lines, read_flags, shown_reason, source_lines, unmarked, written_from, after_blank, REASON_LIMIT}
 use Rattle.s66_lint.proofs.SwitchedLines.{at_plain, is_one_line, lines_of-with_newlines, standing}
 
 -- THE LINES OF THE SOURCE are kept

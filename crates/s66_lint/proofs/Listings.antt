@@ -1,8 +1,7 @@
 -- Findings stay in order with those of the next lines.
 use Rattle.std.proofs.Common.{◌≡◌, ◌≤◌, ◌++◌, ◌∷◌, ℕ, true, List, [], nat_le, ◌&&◌, refl, arith}
 use Rattle.std.proofs.lemmas.Bool.{and_parts, and_from}
-use Rattle.s66_lint.specs.Listing.{is_in_order}
-use Rattle.s66_lint.specs.declared.finding.Finding.{Finding}
+use Rattle.s66_lint.specs.{is_in_order, Finding}
 
 -- up to a later line
 pub order-later : (first last more : ℕ) (all : List Finding) → last ≤ more → is_in_order first last all ≡ true → is_in_order first more all ≡ true

@@ -1,22 +1,17 @@
 -- The comments `*S66 OFF` and `*S66 ON` around each line that `--cut` leaves alone do without it what it does.
-use Rattle.std.proofs.Common.{◌≡◌, ◌||◌, ◌==◌, ℕ, suc, Bool, true, false, not, cond, if◌then◌else◌, List, [], ◌∷◌, ◌++◌, codes, map, refl, sym, ap, ap₂, ◌∙◌}
-use Rattle.std.specs.Prelude.{Ok}
+use Rattle.std.proofs.Common.{◌≡◌, ◌||◌, ◌==◌, ℕ, suc, Bool, true, false, not, cond, if◌then◌else◌, List, [], ◌∷◌, ◌++◌, codes, map, refl, sym, ap, ap₂, ◌∙◌, Ok}
 use Rattle.std.proofs.lemmas.Bool.{and_parts, and_from, or_parts}
-use Rattle.s66_isa.specs.Lists.{every}
-use Rattle.s66_line.specs.Blocks.{Entry, Block}
-use Rattle.s66_line.specs.Classes.{by_operation, class_of, is_code, is_instruction, is_located}
-use Rattle.s66_line.specs.Fields.{body, continues, is_comment, is_newline, lines_of, with_newlines, from_operation}
-use Rattle.s66_line.specs.declared.class.Class.{Class}
-use Rattle.s66_line.specs.declared.class.Class.TheVariants.{Comment, Other, Refused, Pad, Instruction}
+use Rattle.s66_isa.specs.{every}
+use Rattle.s66_line.specs.{Entry, Block, by_operation, class_of, is_code, is_instruction, is_located, body, continues, is_comment, is_newline, lines_of, with_newlines, from_operation, Class, Comment}
+use Rattle.s66_line.specs.{Other, Refused, Pad, Instruction}
 use Rattle.s66_line.proofs.Wholes.{AreLines-lines_of}
-use Rattle.s66_source.specs.LeftAlone.{Flagged, after_line, at_first, flagged_from, flagged_lines, is_alone, is_continued, is_held, is_doubtful, is_off_switch, is_on_switch, plain}
-use Rattle.s66_source.specs.Redefinitions.{Redefined, nothing_redefined, redefined_in}
-use Rattle.s66_source.specs.Source.{Line, begins_block, block_of, classed_lines, classes_from, entry_of, instructions, label_after, label_at, parts_of, place_after, place_at, put_before, run_after, run_at, source_of}
-use Rattle.s66_source.specs.LeftAlone.{Standing}
+use Rattle.s66_source.specs.{Flagged, after_line, at_first, flagged_from, flagged_lines, is_alone, is_continued, is_held, is_doubtful, is_off_switch, is_on_switch, plain, Redefined, nothing_redefined}
+use Rattle.s66_source.specs.{redefined_in, Line, begins_block, block_of, classed_lines, classes_from, entry_of, instructions, label_after, label_at, parts_of, place_after, place_at, put_before}
+use Rattle.s66_source.specs.{run_after, run_at, source_of, Standing}
 use Rattle.s66_source.proofs.FlaggedLines.{bytes-flagged}
 use Rattle.s66_source.proofs.PrintedLines.{accepted-is}
 use Rattle.s66_source.proofs.ReadBack.{lines_of-line}
-use Rattle.s66_lint.specs.Switched.{between_switches, switched, switched_lines, unnumbered, unnumbered_entry, is_refused}
+use Rattle.s66_lint.specs.{between_switches, switched, switched_lines, unnumbered, unnumbered_entry, is_refused}
 
 abbrev off_line : List ℕ
 off_line = codes "*S66 OFF"

@@ -1,9 +1,8 @@
 -- To be believed: a source with the comments `*S66 OFF GUARD` and `*S66 ON GUARD` around the lines that are marked.
-use Rattle.std.specs.Prelude.{◌≡◌, ℕ, Bool, true, false, not, ◌&&◌, ◌||◌, List, [], ◌∷◌, ◌++◌, codes, length, map, take}
-use Rattle.std.specs.List.{take_while}
-use Rattle.s66_isa.specs.Lists.{tally}
-use Rattle.s66_line.specs.Fields.{body, is_newline, lines_of, trim, with_newlines, is_trailing}
-use Rattle.s66_source.specs.LeftAlone.{Flagged, flagged_lines, is_on_switch, plain}
+use Rattle.std.specs.Prelude.{◌≡◌, ℕ, Bool, true, false, not, ◌&&◌, ◌||◌, List, [], ◌∷◌, ◌++◌, codes, length, map, take, take_while}
+use Rattle.s66_isa.specs.{tally}
+use Rattle.s66_line.specs.{body, is_newline, lines_of, trim, with_newlines, is_trailing}
+use Rattle.s66_source.specs.{Flagged, flagged_lines, is_on_switch, plain}
 use Rattle.s66_lint.specs.Listing.{after_blank}
 use Rattle.s66_lint.specs.declared.guard.guard.TheConstants.{REASON_LIMIT}
 

@@ -3,13 +3,13 @@
 --
 -- Which findings there are isn't defined: they are advice, and `FORMATS.md` says what they are.
 use Rattle.std.specs.Prelude.{◌≡◌, ℕ, suc, Bool, true, false, ◌&&◌, not, if◌then◌else◌, List, [], ◌∷◌, ◌++◌, codes, decimal, length, min, nat_le, nat_lt}
-use Rattle.s66_line.specs.Fields.{lines_of}
-use Rattle.s66_source.specs.LeftAlone.{Reading}
-use Rattle.s66_source.specs.declared.limits.TheConstants.{SOURCE_LINES_LIMIT}
+use Rattle.s66_line.specs.{lines_of}
+use Rattle.s66_source.specs.{Reading, SOURCE_LINES_LIMIT}
 use Rattle.s66_lint.specs.Marks.{alone_lines, is_marked}
 use Rattle.s66_lint.specs.declared.finding.Finding.{Finding}
 use Rattle.s66_lint.specs.declared.finding.FindingRule.{FindingRule}
-use Rattle.s66_lint.specs.declared.finding.FindingRule.TheVariants.{TooLong, BadOperand, FarOperand, Redefined, NotAComment, NotAnInstruction, InColumn1, InColumn2, Directive, HasABody, LoadsCode, StoresIntoCode, TakesCode, PassesCode, SkipsWords, JoinsAWord, CountsWords, FallsIntoData, RowOfNo, CountsLines}
+use Rattle.s66_lint.specs.declared.finding.FindingRule.TheVariants.{TooLong, BadOperand, FarOperand, Redefined, NotAComment, NotAnInstruction, InColumn1, InColumn2, Directive, HasABody, LoadsCode}
+use Rattle.s66_lint.specs.declared.finding.FindingRule.TheVariants.{StoresIntoCode, TakesCode, PassesCode, SkipsWords, JoinsAWord, CountsWords, FallsIntoData, RowOfNo, CountsLines}
 
 abbrev pub rule_words : FindingRule → List ℕ
 rule_words TooLong = codes " TOO LONG"

@@ -1,10 +1,7 @@
 -- To be believed: which findings of `lint` are marked by `(CUT)`: those of what `--cut` leaves alone.
 use Rattle.std.specs.Prelude.{ℕ, ◌-◌, Bool, true, false, List, [], ◌∷◌, if◌then◌else◌, length, nat_lt, slice_index_or, take}
-use Rattle.s66_line.specs.Fields.{lines_of}
-use Rattle.s66_line.specs.declared.limits.TheConstants.{LINE_BYTES_LIMIT}
-use Rattle.s66_source.specs.LeftAlone.{Standing, after_line, at_first, is_alone, is_continued}
-use Rattle.s66_source.specs.Redefinitions.{redefined_in}
-use Rattle.s66_source.specs.declared.limits.TheConstants.{SOURCE_LINES_LIMIT}
+use Rattle.s66_line.specs.{lines_of, LINE_BYTES_LIMIT}
+use Rattle.s66_source.specs.{Standing, after_line, at_first, is_alone, is_continued, redefined_in, SOURCE_LINES_LIMIT}
 use Rattle.s66_lint.specs.declared.finding.Finding.{Finding}
 use Rattle.s66_lint.specs.declared.finding.FindingRule.{FindingRule}
 use Rattle.s66_lint.specs.declared.finding.FindingRule.TheVariants.{BadOperand, CountsLines, Directive, FarOperand, HasABody, Redefined}

@@ -1,10 +1,7 @@
 -- To be believed: a source with the comments `*S66 OFF` and `*S66 ON` around each line that `--cut` leaves alone.
 use Rattle.std.specs.Prelude.{ℕ, Bool, true, false, not, if◌then◌else◌, List, [], ◌∷◌, ◌++◌, codes, map}
-use Rattle.s66_line.specs.Blocks.{Entry, Block}
-use Rattle.s66_line.specs.Fields.{body, with_newlines}
-use Rattle.s66_line.specs.declared.class.Class.{Class}
-use Rattle.s66_line.specs.declared.class.Class.TheVariants.{Refused}
-use Rattle.s66_source.specs.LeftAlone.{Flagged, flagged_lines, is_on_switch}
+use Rattle.s66_line.specs.{Entry, Block, body, with_newlines, Class, Refused}
+use Rattle.s66_source.specs.{Flagged, flagged_lines, is_on_switch}
 
 -- a line as it is or, if it is left alone, between the two comments; the second is left alone too, but for one after a switch ON
 abbrev pub between_switches : Flagged → List Flagged

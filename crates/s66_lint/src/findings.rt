@@ -1,9 +1,9 @@
 //! All findings of a source (`findings_in`), line after line, for `lint`.
 
 ghost use Rattle.std.specs.Prelude.{ℕ, suc, ◌≡◌, ◌≤◌, ◌++◌, true, length, min, nat_lt, is_some, IfOk, OnOk};
-ghost use Rattle.s66_line.specs.Fields.{lines_of};
-ghost use Rattle.s66_source.specs.declared.limits.TheConstants.{SOURCE_LINES_LIMIT};
-ghost use Rattle.s66_lint.specs.Listing.{AreFindings, IsFindings, has_more, is_in_order, past_line};
+ghost use Rattle.s66_line.specs.{lines_of};
+ghost use Rattle.s66_source.specs.{SOURCE_LINES_LIMIT};
+ghost use Rattle.s66_lint.specs.{AreFindings, IsFindings, has_more, is_in_order, past_line};
 
 use crate::deck::{Deck, Lines};
 use crate::finding::{Finding, FindingRule, Harm, LineFinding};

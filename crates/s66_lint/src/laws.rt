@@ -1,12 +1,10 @@
 //! Laws and examples of the lines that `--cut` leaves alone: two switches around each do the same.
 
 ghost use Rattle.std.specs.Prelude.{◌≡◌, ℕ, List, [], ◌∷◌, Ok, true, false, codes, map, not};
-ghost use Rattle.s66_isa.specs.Lists.{every};
-ghost use Rattle.s66_line.specs.Blocks.{Block};
-ghost use Rattle.s66_source.specs.LeftAlone.{flagged_lines, plain};
-ghost use Rattle.s66_source.specs.Source.{Line, classed_lines, source_of};
-ghost use Rattle.s66_lint.specs.Marks.{alone_lines};
-ghost use Rattle.s66_lint.specs.Switched.{is_refused, switched, switched_lines, unnumbered};
+ghost use Rattle.s66_isa.specs.{every};
+ghost use Rattle.s66_line.specs.{Block};
+ghost use Rattle.s66_source.specs.{flagged_lines, plain, Line, classed_lines, source_of};
+ghost use Rattle.s66_lint.specs.{alone_lines, is_refused, switched, switched_lines, unnumbered};
 
 /// The two comments around each line that `--cut` leaves alone do without `--cut` what it does: the same lines are left alone, no line
 /// is refused for its operand, and if neither source is refused, the blocks are the same but for the numbers of their lines.

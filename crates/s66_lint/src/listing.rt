@@ -1,8 +1,7 @@
 //! The text of a finding as `lint` lists it, and which findings are listed with `--cut`.
 
 ghost use Rattle.std.specs.Prelude.{◌≡◌, ◌++◌, codes, if◌then◌else◌, OnOk};
-ghost use Rattle.s66_lint.specs.Listing.{after_blank, finding_line, is_listed, listing, rule_words};
-ghost use Rattle.s66_lint.specs.Marks.{is_alone_at, is_marked};
+ghost use Rattle.s66_lint.specs.{after_blank, finding_line, is_listed, listing, rule_words, is_alone_at, is_marked};
 
 use crate::finding::{Finding, FindingRule};
 use s66_device::push_field;

@@ -2,10 +2,9 @@
 //! leaves it alone.
 
 ghost use Rattle.std.specs.Prelude.{◌≡◌, ◌≤◌, ◌<◌, ◌++◌, ◌∷◌, true, [], length, OnOk};
-ghost use Rattle.s66_line.specs.declared.limits.TheConstants.{LINE_BYTES_LIMIT};
-ghost use Rattle.s66_source.specs.LeftAlone.{after_line, is_alone};
-ghost use Rattle.s66_source.specs.declared.limits.TheConstants.{SOURCE_LINES_LIMIT};
-ghost use Rattle.s66_lint.specs.Marks.{as_read};
+ghost use Rattle.s66_line.specs.{LINE_BYTES_LIMIT};
+ghost use Rattle.s66_source.specs.{after_line, is_alone, SOURCE_LINES_LIMIT};
+ghost use Rattle.s66_lint.specs.{as_read};
 
 use crate::line::Line;
 use s66_line::{LINE_BYTES_LIMIT, body_of};
@@ -76,11 +75,9 @@ impl Passed {
 
 impl<'a> Lines<'a> {
     ghost use Rattle.std.specs.Prelude.{◌≡◌, ◌≤◌, length, min, is_some, vec_len, IfOk};
-    ghost use Rattle.s66_line.specs.Fields.{lines_of};
-    ghost use Rattle.s66_source.specs.Redefinitions.{redefined_in};
-    ghost use Rattle.s66_source.specs.declared.limits.TheConstants.{SOURCE_LINES_LIMIT};
-    ghost use Rattle.s66_lint.specs.Listing.{has_more};
-    ghost use Rattle.s66_lint.specs.Marks.{alone_lines};
+    ghost use Rattle.s66_line.specs.{lines_of};
+    ghost use Rattle.s66_source.specs.{redefined_in, SOURCE_LINES_LIMIT};
+    ghost use Rattle.s66_lint.specs.{has_more, alone_lines};
 
     /// Reads a text, of which `letters` is the same in upper case, and which redefines this; some lines may be refused.
     pub(crate) fn of(

@@ -1,12 +1,11 @@
 //! Prints a source with the switches `*S66 OFF GUARD` and `*S66 ON GUARD` around the lines that are marked (`guard_text`). Which these
 //! are is decided in `marks.rt`.
 
-ghost use Rattle.std.specs.Prelude.{◌≡◌, ◌≤◌, ◌<◌, ◌^◌, ◌++◌, ◌∷◌, ◌||◌, ◌&&◌, Bool, not, [], true, length, take, IfOk, OnOk};
-ghost use Rattle.std.specs.List.{prefix_len, take_while};
-ghost use Rattle.s66_line.specs.Fields.{is_newline};
-ghost use Rattle.s66_source.specs.LeftAlone.{is_off_switch, is_on_switch, off_after};
-ghost use Rattle.s66_lint.specs.Guarded.{Begins, IsGuard, Kept, beginnings, between, guarded_lines, guarded_text, shown_reason};
-ghost use Rattle.s66_lint.specs.LineMarks.{Finishes, GainsLines, first_mark, later_marks, marks_of, reason_texts};
+ghost use Rattle.std.specs.Prelude.{◌≡◌, ◌≤◌, ◌<◌, ◌^◌, ◌++◌, ◌∷◌, ◌||◌, ◌&&◌, Bool, not, [], true, length, take, IfOk, OnOk, take_while};
+ghost use Rattle.std.specs.List.{prefix_len};
+ghost use Rattle.s66_line.specs.{is_newline};
+ghost use Rattle.s66_source.specs.{is_off_switch, is_on_switch, off_after};
+ghost use Rattle.s66_lint.specs.{Begins, IsGuard, Kept, beginnings, between, guarded_lines, guarded_text, shown_reason, Finishes, GainsLines, first_mark, later_marks, marks_of, reason_texts};
 
 use crate::guard::marks::{LineMark, marks_of};
 use crate::listing::push_word;

@@ -1,11 +1,9 @@
 //! A source with switches around the lines that are marked, read again: contracts of functions that do nothing.
 
 ghost use Rattle.std.specs.Prelude.{◌≡◌, ℕ, Bool, Some, List, [], ◌∷◌, ◌++◌, true, false, codes, length, map, replicate, slice_get};
-ghost use Rattle.s66_line.specs.Fields.{lines_of};
-ghost use Rattle.s66_source.specs.LeftAlone.{Flagged, flagged_lines, plain};
-ghost use Rattle.s66_source.specs.Replaced.{owner};
-ghost use Rattle.s66_source.specs.Source.{Line, classed_lines};
-ghost use Rattle.s66_lint.specs.Guarded.{Begins, Mark, GuardedLine, flag_of, guarded_bytes, guarded, guarded_flags, guarded_lines, is_left_alone, source_lines, unmarked};
+ghost use Rattle.s66_line.specs.{lines_of};
+ghost use Rattle.s66_source.specs.{Flagged, flagged_lines, plain, owner, Line, classed_lines};
+ghost use Rattle.s66_lint.specs.{Begins, Mark, GuardedLine, flag_of, guarded_bytes, guarded, guarded_flags, guarded_lines, is_left_alone, source_lines, unmarked};
 
 /// The lines of what is printed are those of the source, in order and each once, and lines that were added.
 pub fn unguarded_law()

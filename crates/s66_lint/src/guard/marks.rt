@@ -1,7 +1,7 @@
 //! The marks of lines for `guard`: which lines are in danger, and the reasons above each region.
 
 ghost use Rattle.std.specs.Prelude.{◌≡◌, length, IfOk};
-ghost use Rattle.s66_line.specs.Fields.{lines_of};
+ghost use Rattle.s66_line.specs.{lines_of};
 
 use crate::guard::regions::{Region, regions_of};
 use crate::guard::source_harm::{SourceHarm, source_harm};

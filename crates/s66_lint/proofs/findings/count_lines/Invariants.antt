@@ -1,5 +1,5 @@
 use Rattle.std.proofs.Common.{◌≡◌, ◌≤◌, ◌+◌, [], length}
-use Rattle.s66_line.specs.Fields.{lines_from, lines_of}
+use Rattle.s66_line.specs.{lines_from, lines_of}
 use Rattle.s66_lint.proofs.findings.count_lines.Given as goal
 
 abbrev pub invariant-loop-more : goal.invariant-loop-more

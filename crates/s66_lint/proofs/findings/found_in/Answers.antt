@@ -1,5 +1,5 @@
 use Rattle.std.proofs.Common.{length, arith}
-use Rattle.s66_line.specs.Fields.{lines_of}
+use Rattle.s66_line.specs.{lines_of}
 use Rattle.s66_lint.proofs.findings.found_in.Goals as goal
 
 pub loop-at-preserved : goal.loop-at-preserved

@@ -1,5 +1,5 @@
 use Rattle.std.proofs.Common.{◌≡◌, true, refl, subst, sym}
-use Rattle.s66_lint.specs.Listing.{is_in_order}
+use Rattle.s66_lint.specs.{is_in_order}
 use Rattle.s66_lint.proofs.Listings.{order-later, order-with}
 use Rattle.s66_lint.proofs.findings.push_findings.Goals as goal
 

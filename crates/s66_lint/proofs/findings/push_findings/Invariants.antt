@@ -1,5 +1,5 @@
 use Rattle.std.proofs.Common.{ℕ, ◌≡◌, ◌≤◌, true}
-use Rattle.s66_lint.specs.Listing.{is_in_order}
+use Rattle.s66_lint.specs.{is_in_order}
 use Rattle.s66_lint.proofs.findings.push_findings.Given as goal
 
 abbrev pub invariant-loop-finding : goal.invariant-loop-finding

@@ -1,5 +1,5 @@
 use Rattle.std.proofs.Common.{◌≡◌, ◌++◌, drop}
-use Rattle.s66_lint.specs.Listing.{listing}
+use Rattle.s66_lint.specs.{listing}
 use Rattle.s66_lint.proofs.listing.push_listing.Given as goal
 
 abbrev pub invariant-loop-found : goal.invariant-loop-found

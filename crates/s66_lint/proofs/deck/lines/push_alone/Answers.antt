@@ -1,5 +1,5 @@
 use Rattle.std.proofs.Common.{◌∷◌, [], true, length, ap, ◌∙◌, arith, length-append}
-use Rattle.s66_source.specs.LeftAlone.{Standing}
+use Rattle.s66_source.specs.{Standing}
 use Rattle.s66_source.proofs.Standings.{bodies-grow}
 use Rattle.s66_lint.proofs.AloneLines.{length-read}
 use Rattle.s66_lint.proofs.deck.lines.push_alone.Goals as goal

@@ -1,6 +1,5 @@
-use Rattle.std.proofs.Common.{sym, arith, take_all}
-use Rattle.std.proofs.lemmas.List.{length-take}
-use Rattle.s66_lint.specs.declared.guard.guard.TheConstants.{REASON_LIMIT}
+use Rattle.std.proofs.Common.{sym, arith, take_all, length-take}
+use Rattle.s66_lint.specs.{REASON_LIMIT}
 use Rattle.s66_lint.proofs.guard.guard.front.Goals as goal
 
 pub slice_bounds-result-end : goal.slice_bounds-result-end

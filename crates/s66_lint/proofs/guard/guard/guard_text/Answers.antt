@@ -1,7 +1,6 @@
 use Rattle.std.proofs.Common.{[], length, ap, ◌∙◌}
 use Rattle.std.proofs.lemmas.Result.{IfOk-weaker}
-use Rattle.s66_lint.specs.Guarded.{IsGuard, guarded_lines}
-use Rattle.s66_lint.specs.LineMarks.{Finishes, marks_of}
+use Rattle.s66_lint.specs.{IsGuard, guarded_lines, Finishes, marks_of}
 use Rattle.s66_lint.specs.declared.guard.guard.Guarded.{Guarded}
 use Rattle.s66_lint.proofs.GuardPrinting.{is-guard}
 use Rattle.s66_lint.proofs.guard.guard.guard_text.Goals as goal

@@ -1,8 +1,7 @@
 use Rattle.std.proofs.Common.{◌≡◌, ◌++◌, ◌∷◌, ◌&&◌, ◌||◌, not, ℕ, Bool, List, [], subst, sym, ap, ◌∙◌, arith}
-use Rattle.s66_line.specs.Fields.{body}
-use Rattle.s66_source.specs.LeftAlone.{Flagged, is_off_switch, is_on_switch, off_after}
-use Rattle.s66_lint.specs.Guarded.{Kept, Mark, GuardedLine, between, guarded_lines}
-use Rattle.s66_lint.specs.LineMarks.{Finishes, first_mark, later_marks, marks_of, reason_texts}
+use Rattle.s66_line.specs.{body}
+use Rattle.s66_source.specs.{Flagged, is_off_switch, is_on_switch, off_after}
+use Rattle.s66_lint.specs.{Kept, Mark, GuardedLine, between, guarded_lines, Finishes, first_mark, later_marks, marks_of, reason_texts}
 use Rattle.s66_lint.proofs.GuardPrinting.{between-no_line, between-one_end, completes-grown, kept-one_line, next_line, written-line, written_rest}
 use Rattle.s66_lint.proofs.guard.guard.print_guarded.Goals as goal
 

@@ -1,8 +1,7 @@
 use Rattle.std.proofs.Common.{◌≤◌, ◌+◌, [], false, length}
-use Rattle.s66_line.specs.Fields.{lines_from}
-use Rattle.s66_source.specs.LeftAlone.{flagged_from}
-use Rattle.s66_lint.specs.Guarded.{guarded_lines, marked_lines, written_from}
-use Rattle.s66_lint.specs.LineMarks.{Finishes, marks_of}
+use Rattle.s66_line.specs.{lines_from}
+use Rattle.s66_source.specs.{flagged_from}
+use Rattle.s66_lint.specs.{guarded_lines, marked_lines, written_from, Finishes, marks_of}
 use Rattle.s66_lint.proofs.SwitchedLines.{standing}
 use Rattle.s66_lint.proofs.guard.guard.print_guarded.Given as goal
 

@@ -1,6 +1,5 @@
 use Rattle.std.proofs.Common.{◌≡◌, ◌++◌, drop, map}
-use Rattle.s66_lint.specs.Guarded.{Begins, guarded_text}
-use Rattle.s66_lint.specs.LineMarks.{reason_texts}
+use Rattle.s66_lint.specs.{Begins, guarded_text, reason_texts}
 use Rattle.s66_lint.proofs.guard.guard.push_beginnings.Given as goal
 
 abbrev pub invariant-loop-reason : goal.invariant-loop-reason

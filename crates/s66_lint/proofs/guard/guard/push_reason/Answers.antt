@@ -1,6 +1,6 @@
 use Rattle.std.proofs.Common.{rules, OnOk, ◌≡◌, ◌++◌, ℕ, List, codes, ap, ◌∙◌, append_assoc}
 use Rattle.std.proofs.lemmas.Result.{on_ok_weaker}
-use Rattle.s66_lint.specs.Listing.{after_blank}
+use Rattle.s66_lint.specs.{after_blank}
 use Rattle.s66_lint.proofs.guard.guard.push_reason.Goals as goal
 
 pub returns : goal.returns

@@ -1,5 +1,5 @@
 use Rattle.std.proofs.Common.{◌≡◌, length}
-use Rattle.s66_line.specs.Fields.{lines_of}
+use Rattle.s66_line.specs.{lines_of}
 use Rattle.s66_lint.proofs.guard.marks.marks_of.Given as goal
 
 abbrev pub invariant-loop-region : goal.invariant-loop-region

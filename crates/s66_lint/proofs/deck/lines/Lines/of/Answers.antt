@@ -1,8 +1,7 @@
 use Rattle.std.proofs.Common.{◌<◌, ◌-◌, ◌++◌, [], true, take, length, refl, sym, ap, ◌∙◌, arith, length-append}
-use Rattle.s66_line.specs.Fields.{lines_from}
-use Rattle.s66_source.specs.LeftAlone.{Standing, after_line, is_alone}
-use Rattle.s66_source.specs.declared.limits.TheConstants.{SOURCE_LINES_LIMIT}
-use Rattle.s66_lint.specs.Marks.{alone_from, alone_lines, as_read}
+use Rattle.s66_line.specs.{lines_from}
+use Rattle.s66_source.specs.{Standing, after_line, is_alone, SOURCE_LINES_LIMIT}
+use Rattle.s66_lint.specs.{alone_from, alone_lines, as_read}
 use Rattle.s66_lint.proofs.AloneLines.{alone_from-found, no-more, none-left, one-more}
 use Rattle.s66_lint.proofs.deck.lines.Lines.of.Goals as goal
 

@@ -1,8 +1,7 @@
 use Rattle.std.proofs.Common.{◌≡◌, ◌≤◌, ◌+◌, ◌-◌, ◌++◌, [], length, take, vec_len}
-use Rattle.s66_line.specs.Fields.{lines_from, lines_of}
-use Rattle.s66_source.specs.LeftAlone.{is_continued}
-use Rattle.s66_source.specs.declared.limits.TheConstants.{SOURCE_LINES_LIMIT}
-use Rattle.s66_lint.specs.Marks.{alone_from, alone_lines}
+use Rattle.s66_line.specs.{lines_from, lines_of}
+use Rattle.s66_source.specs.{is_continued, SOURCE_LINES_LIMIT}
+use Rattle.s66_lint.specs.{alone_from, alone_lines}
 use Rattle.s66_lint.proofs.deck.lines.Lines.of.Given as goal
 
 -- what is known of the lines so far, and then of the rest, is what is known of all

@@ -1,7 +1,6 @@
 use Rattle.std.proofs.Common.{◌≡◌, ◌++◌, ℕ, List, arith}
 use Rattle.std.proofs.lemmas.Result.{on_ok_weaker}
-use Rattle.s66_lint.specs.Guarded.{beginnings, guarded_text}
-use Rattle.s66_lint.specs.LineMarks.{reason_texts}
+use Rattle.s66_lint.specs.{beginnings, guarded_text, reason_texts}
 use Rattle.s66_lint.proofs.GuardPrinting.{beginnings-no_end, beginnings-no_line}
 use Rattle.s66_lint.proofs.guard.guard.Guarded.push_between.Goals as goal
 
