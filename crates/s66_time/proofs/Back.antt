@@ -1,13 +1,13 @@
 -- Words of registers that were saved by a push come back by `put_back`, the last first.
-use Rattle.std.proofs.Common.{max, cond, ◌||◌, ℕ, ◌+◌, ◌≡◌, ◌<◌, List, [], ◌∷◌, ◌++◌, refl, sym, ap, ◌∙◌, set, get_or, length, take, replicate, arith, inl, inr}
-use Rattle.std.proofs.lemmas.List.{set-set, set-get_or, take_more, get_or-replicate, get_or_past, length-replicate}
+use Rattle.std.proofs.Common.{max, cond, ◌||◌, ℕ, ◌+◌, ◌≡◌, ◌<◌, List, [], ◌∷◌, ◌++◌, refl, sym, ap, ◌∙◌, set, get_or, length, take, replicate, arith, inl, inr, set-set}
+use Rattle.std.proofs.lemmas.List.{set-get_or, take_more, get_or-replicate, get_or_past, length-replicate}
 use Rattle.std.proofs.Math.Bool.{or-false}
-use Rattle.s66_isa.specs.Table.{Reg, same_reg, has_reg}
+use Rattle.s66_isa.specs.Table.{Reg}
+use Rattle.s66_isa.specs.{same_reg, has_reg}
 use Rattle.s66_isa.proofs.SameRegister.{same_reg-sym, has_reg-append}
 use Rattle.s66_isa.proofs.RegisterBits.{raised-twice}
 use Rattle.s66_isa.proofs.Lists.{cases_le}
-use Rattle.s66_time.specs.declared.step.Saved.{Saved}
-use Rattle.s66_time.specs.Places.{put_back}
+use Rattle.s66_time.specs.{Saved, put_back}
 
 pub put_back-push : (ws : List Saved) (w : Saved) (words : List ℕ) → put_back (ws ++ w ∷ []) words ≡ put_back ws (set words w.place w.word)
 put_back-push [] w words = refl

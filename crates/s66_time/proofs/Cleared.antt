@@ -1,13 +1,8 @@
 -- Words of units that are set to 0 from any state, as a timer begins anew.
-use Rattle.std.proofs.Common.{ℕ, zero, suc, ◌+◌, ◌<◌, ◌≡◌, List, [], ◌∷◌, set, get_or, length, refl, sym, ap, ◌∙◌, arith, ltb, drop, length-take}
-use Rattle.std.proofs.lemmas.Bool.{cond-false, le-ltb}
-use Rattle.std.proofs.lemmas.List.{get_or-drop, get_or-take}
-use Rattle.s66_isa.specs.Lists.{tally}
-use Rattle.s66_isa.specs.Table.{all_kinds, copies_of, kind_number}
-use Rattle.s66_isa.specs.declared.instr.Kind.{Kind}
-use Rattle.s66_isa.specs.declared.instr.Kind.TheVariants.{Boolean, Shift, Add, LongAdd, Multiply, Divide, Increment}
-use Rattle.s66_isa.specs.declared.profile.Profile.{Profile}
-use Rattle.s66_time.specs.Places.{first_unit, units_of}
+use Rattle.std.proofs.Common.{ℕ, zero, suc, ◌+◌, ◌<◌, ◌≡◌, List, [], ◌∷◌, set, get_or, length, refl, sym, ap, ◌∙◌, arith, ltb, drop, length-take, le-ltb, get_or-drop, get_or-take}
+use Rattle.std.proofs.lemmas.Bool.{cond-false}
+use Rattle.s66_isa.specs.{tally, all_kinds, copies_of, kind_number, Kind, Boolean, Shift, Add, LongAdd, Multiply, Divide, Increment, Profile}
+use Rattle.s66_time.specs.{first_unit, units_of}
 
 pub zero-set : (ws : List ℕ) (i : ℕ) → get_or (set ws i 0) i 0 ≡ 0
 zero-set [] i = refl

@@ -1,33 +1,22 @@
 -- The point of the next instruction by the words of a clock.
-use Rattle.std.proofs.Common.{ℕ, zero, suc, ◌+◌, ◌-◌, ◌≤◌, ◌<◌, ◌≡◌, ◌≢◌, false, true≢false, cond, ◌||◌, max, min, List, [], ◌∷◌, length, take, drop, set, get_or, map, refl, sym, ap, arith, inl, inr, leb, ltb, eqb, ◌∙◌, subst, length-take, length-drop, replicate}
-use Rattle.std.proofs.lemmas.List.{drop-set-lt, drop-set-add, take-set-le, get_or-drop, get_or-take, length-set, set-set, set-get_or}
+use Rattle.std.proofs.Common.{ℕ, zero, suc, ◌+◌, ◌-◌, ◌≤◌, ◌<◌, ◌≡◌, ◌≢◌, false, true≢false, cond, ◌||◌, max, min, List, [], ◌∷◌, length, take, drop, set, get_or, map, refl, sym, ap, arith, inl, inr}
+use Rattle.std.proofs.Common.{leb, ltb, eqb, ◌∙◌, subst, length-take, length-drop, replicate, drop-set-lt, get_or-drop, get_or-take, length-set, set-set, lt-ltb, eq-eqb, le-ltb, le-leb}
+use Rattle.std.proofs.lemmas.List.{drop-set-add, take-set-le, set-get_or}
 use Rattle.std.proofs.Math.Seq.{take-set-lt}
-use Rattle.std.proofs.lemmas.Bool.{cond-true, cond-false, lt-ltb, and_left, cases_Bool, eq-eqb, le-ltb, le-leb, lt-leb}
-use Rattle.s66_isa.specs.Table.{Write, Row, memory_pair, touches, stores, copies_of, kind_number, same_kind}
-use Rattle.s66_isa.specs.declared.instr.Kind.{Kind}
-use Rattle.s66_isa.specs.declared.instr.Kind.TheVariants.{Boolean, Shift, Add, LongAdd, Multiply, Divide, Increment}
-use Rattle.s66_isa.specs.declared.instr.Memory.{Memory}
+use Rattle.std.proofs.lemmas.Bool.{cond-true, cond-false, and_left, cases_Bool, lt-leb}
+use Rattle.s66_isa.specs.{Write, Row, memory_pair, touches, stores, copies_of, kind_number, same_kind, Kind, Boolean, Shift, Add, LongAdd, Multiply, Divide, Increment, Memory, Profile, greatest}
+use Rattle.s66_isa.specs.{tally, weigh, IsInRange}
 use Rattle.s66_isa.specs.declared.instr.Memory.TheVariants as memory
-use Rattle.s66_isa.specs.declared.profile.Profile.{Profile}
-use Rattle.s66_isa.specs.Lists.{greatest, tally, weigh}
-use Rattle.s66_model.specs.Dominance.{references_wait, stores_wait}
-use Rattle.s66_model.specs.Packing.{fits_at}
-use Rattle.s66_isa.specs.Rows.{IsInRange}
-use Rattle.s66_model.specs.Timing.{Point, ResultAt, slot_of, next, next_parcel, done_of, last_done, busy_at, issue_of, start_of, total, point, result_at, free_after}
-use Rattle.s66_time.specs.declared.words.Words.{Words}
-use Rattle.s66_time.specs.declared.limits.TheConstants.{COPIES_LIMIT, TOTAL_LIMIT, UNIT_LIMIT}
-use Rattle.s66_time.specs.Places.{first_unit, units_of, put_back}
-use Rattle.s66_time.specs.ClockWords.{under, wait_of, IsWords, InTurn, IsSoonest, AreWordsInTurn, Takes}
-use Rattle.s66_model.specs.Leaves.{rest_busy}
+use Rattle.s66_isa.proofs.Lists.{cases_le}
+use Rattle.s66_model.specs.{references_wait, stores_wait, fits_at, Point, ResultAt, slot_of, next, next_parcel, done_of, last_done, busy_at, issue_of, start_of, total, point, result_at, free_after}
+use Rattle.s66_model.specs.{rest_busy}
 use Rattle.s66_model.proofs.Issue.{none_busy, issue-join}
 use Rattle.s66_model.proofs.LoadBound.{same_kind-true}
-use Rattle.s66_isa.proofs.Lists.{cases_le}
-use Rattle.s66_time.specs.declared.progress.Progress.{Progress}
-use Rattle.s66_time.specs.declared.step.Saved.{Saved}
 use Rattle.s66_model.proofs.Growth.{AreSmall, none-first, fits_at-ge, start-le, start-ge, free-ge}
+use Rattle.s66_model.proofs.FreeTimes.{place-le}
+use Rattle.s66_time.specs.{Words, COPIES_LIMIT, TOTAL_LIMIT, UNIT_LIMIT, first_unit, units_of, put_back, under, wait_of, IsWords, InTurn, IsSoonest, AreWordsInTurn, Takes, Progress, Saved}
 use Rattle.s66_time.proofs.WorkOfKinds.{kinds-few, worked-step}
 use Rattle.s66_time.proofs.FreeUnits.{IsLeast, count-free, count-least, count-push, rest-same}
-use Rattle.s66_model.proofs.FreeTimes.{place-le}
 
 -- WHEN IT ISSUES
 

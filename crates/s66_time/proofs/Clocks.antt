@@ -1,26 +1,20 @@
 -- The words of a clock after pushes and undoes are those of the points that were pushed.
-use Rattle.std.proofs.Common.{ℕ, ◌+◌, ◌≤◌, ◌<◌, ◌≡◌, Bool, ◌||◌, eqb, true, false, max, List, [], ◌∷◌, ◌++◌, length, take, map, reverse, refl, sym, ap, arith, ◌∙◌, subst, append_assoc, length-append, get_or}
-use Rattle.std.proofs.lemmas.List.{length-map, reverse-append, map_push, append-nil, take_all, take_more}
+use Rattle.std.proofs.Common.{ℕ, ◌+◌, ◌≤◌, ◌<◌, ◌≡◌, Bool, ◌||◌, eqb, true, false, max, List, [], ◌∷◌, ◌++◌, length, take, map, reverse, refl, sym, ap, arith, ◌∙◌, subst, append_assoc, length-append}
+use Rattle.std.proofs.Common.{get_or, append-nil, take_all}
+use Rattle.std.proofs.lemmas.List.{length-map, reverse-append, map_push, take_more}
 use Rattle.std.proofs.Math.Bool.{or-false}
-use Rattle.s66_isa.specs.Table.{Instr, Row}
-use Rattle.s66_isa.specs.declared.instr.Kind.{Kind}
-use Rattle.s66_isa.specs.declared.profile.Profile.{Profile}
-use Rattle.s66_isa.specs.Lists.{greatest, tally, has}
-use Rattle.s66_model.specs.Timing.{Problem, Point, row_at, point_of, points_after, points_of, point, issue_of, start_of, total, next, next_parcel, busy_at, copies}
-use Rattle.s66_model.specs.LegalOrder.{IsBeginning, is_ready}
+use Rattle.s66_isa.specs.Table.{Instr}
+use Rattle.s66_isa.specs.{Row, Kind, Profile, greatest, tally, has, BLOCK_LIMIT}
+use Rattle.s66_model.specs.{Problem, Point, row_at, point_of, points_after, points_of, point, issue_of, start_of, total, next, next_parcel, busy_at, copies, IsBeginning, is_ready}
 use Rattle.s66_model.proofs.LegalOrders.{GoesOn-append, GoesOn-join}
 use Rattle.s66_model.proofs.Growth.{total-le, fits_at-ge}
 use Rattle.s66_model.proofs.ChainBound.{last-is_greatest}
 use Rattle.s66_model.proofs.PointTimes.{good-at, point_of-row, point_of-number, points_after-length, issue-le-start, hold-le-free}
 use Rattle.s66_model.proofs.Issue.{issue-late}
-use Rattle.s66_time.proofs.LongestBeginning.{beginning-few}
-use Rattle.s66_isa.specs.declared.limits.TheConstants.{BLOCK_LIMIT}
-use Rattle.s66_time.specs.ClockWords.{under, IsWords, InTurn, points_of_steps, AreKept, after_undo}
-use Rattle.s66_time.specs.Ticking.{numbers_of, IsClock}
-use Rattle.s66_time.specs.declared.words.Words.{Words}
-use Rattle.s66_time.specs.declared.step.Step.{Step}
-use Rattle.s66_time.proofs.ClockPoints.{slot-is}
 use Rattle.s66_model.proofs.LoadBound.{fits-run, next-le-total}
+use Rattle.s66_time.specs.{under, IsWords, InTurn, points_of_steps, AreKept, after_undo, numbers_of, IsClock, Words, Step}
+use Rattle.s66_time.proofs.LongestBeginning.{beginning-few}
+use Rattle.s66_time.proofs.ClockPoints.{slot-is}
 
 -- THE POINTS ARE IN TURN
 

@@ -1,15 +1,15 @@
 -- Two instructions conflict by the words of their registers exactly if one depends on the other.
-use Rattle.std.proofs.Common.{◌+◌, ◌≡◌, true, ◌++◌, ◌∷◌, [], List, subst, inl, inr, length-append, sym, ◌∙◌, length, get_or, arith, refl}
 use Rattle.std.specs.Cmp.{both_ways}
+use Rattle.std.proofs.Common.{◌+◌, ◌≡◌, true, ◌++◌, ◌∷◌, [], List, subst, inl, inr, length-append, sym, ◌∙◌, length, get_or, arith, refl}
 use Rattle.std.proofs.lemmas.Bool.{cases_lt}
 use Rattle.std.proofs.lemmas.List.{get_or_append_left}
 use Rattle.std.proofs.Math.Seq.{get_or-append_seam}
-use Rattle.s66_isa.specs.Table.{Reg, Instr, has_reg, reads_of, results_of, instr_at}
-use Rattle.s66_isa.specs.Registers.{registers_in}
+use Rattle.s66_isa.specs.Table.{Reg, Instr}
+use Rattle.s66_isa.specs.{has_reg, reads_of, results_of, instr_at, registers_in}
 use Rattle.s66_isa.proofs.RegisterBits.{some-has, some-found}
-use Rattle.s66_model.specs.Dependence.{share, conflict}
+use Rattle.s66_model.specs.{share, conflict}
 use Rattle.s66_time.specs.declared.graph.effects.Effects.{Effects}
-use Rattle.s66_time.specs.Effects.{AreEffects, AreEffectsOf, effects_conflict}
+use Rattle.s66_time.specs.{AreEffects, AreEffectsOf, effects_conflict}
 
 -- whether two lists share a register rests on which registers are in them
 share-from : (rs ts ss us : List Reg) → ((r : Reg) → has_reg r rs ≡ has_reg r ts) → ((r : Reg) → has_reg r ss ≡ has_reg r us) → share rs ss ≡ true → share ts us ≡ true

@@ -1,8 +1,7 @@
 -- The NOs so far and those that the rest of an order needs are those of the order.
 use Rattle.std.proofs.Common.{ℕ, ◌+◌, ◌≡◌, Bool, true, false, cond, eqb, List, [], ◌∷◌, length, length-append, map, refl, arith}
-use Rattle.s66_isa.specs.Table.{row}
-use Rattle.s66_model.specs.Packing.{fillers, fits_at, len_at}
-use Rattle.s66_model.specs.Timing.{Problem, Point, next_parcel, point, point_of}
+use Rattle.s66_isa.specs.{row}
+use Rattle.s66_model.specs.{fillers, fits_at, len_at, Problem, Point, next_parcel, point, point_of}
 
 one : (q : ℕ) (test : Bool) → length (cond test [] (q ∷ [])) ≡ cond test 0 1
 one q true = refl

@@ -1,14 +1,12 @@
 -- The words of the units of a kind: as many of the greatest free times as there are copies.
-use Rattle.std.proofs.Common.{ℕ, zero, suc, ◌+◌, ◌-◌, ◌≤◌, ◌<◌, ◌≡◌, cond, max, min, List, [], ◌∷◌, length, take, drop, set, get_or, refl, ap, arith, inl, inr, ltb, length-drop, subst}
-use Rattle.std.proofs.lemmas.List.{take_more, get_or-drop}
-use Rattle.std.proofs.lemmas.Bool.{cond-true, cond-false, cases_Bool, cases_lt, le-ltb, lt-ltb}
-use Rattle.s66_isa.specs.Lists.{greatest, weigh, tally}
-use Rattle.s66_isa.specs.Table.{same_kind}
-use Rattle.s66_isa.specs.declared.instr.Kind.{Kind}
-use Rattle.s66_model.specs.Timing.{Point, total, busy_at}
-use Rattle.s66_model.specs.Leaves.{rest_busy}
-use Rattle.s66_model.proofs.LoadBound.{fewer, all_drained}
+use Rattle.std.proofs.Common.{ℕ, zero, suc, ◌+◌, ◌-◌, ◌≤◌, ◌<◌, ◌≡◌, cond, max, min, List, [], ◌∷◌, length, take, drop, set, get_or, refl, ap, arith, inl, inr, ltb, length-drop, subst, get_or-drop}
+use Rattle.std.proofs.Common.{le-ltb, lt-ltb}
+use Rattle.std.proofs.lemmas.List.{take_more}
+use Rattle.std.proofs.lemmas.Bool.{cond-true, cond-false, cases_Bool, cases_lt}
+use Rattle.s66_isa.specs.{greatest, weigh, tally, same_kind, Kind}
 use Rattle.s66_isa.proofs.Lists.{cases_le, tally-set, weigh-append}
+use Rattle.s66_model.specs.{Point, total, busy_at, rest_busy}
+use Rattle.s66_model.proofs.LoadBound.{fewer, all_drained}
 use Rattle.s66_model.proofs.LegalOrders.{at-most-one}
 
 -- WORDS THAT ARE LATER

@@ -1,17 +1,12 @@
 -- How many free times of each kind are kept, and the places where they are.
-use Rattle.std.proofs.Common.{ℕ, zero, suc, ◌+◌, ◌-◌, ◌≤◌, ◌<◌, ◌≡◌, ◌≢◌, ◌∙◌, true≢false, cond, min, List, [], ◌∷◌, length, take, set, get_or, map, refl, sym, ap, arith, inl, inr, subst, eqb-true, eq-eqb}
+use Rattle.std.proofs.Common.{ℕ, zero, suc, ◌+◌, ◌-◌, ◌≤◌, ◌<◌, ◌≡◌, ◌≢◌, ◌∙◌, true≢false, cond, min, List, [], ◌∷◌, length, take, set, get_or, map, refl, sym, ap, arith, inl, inr, subst, eqb-true}
+use Rattle.std.proofs.Common.{eq-eqb, get_or-set_same, get_or-set_other}
 use Rattle.std.proofs.lemmas.Bool.{cases_Bool, cond-true, cond-false}
-use Rattle.std.proofs.lemmas.List.{get_or-set_same, get_or-set_other, take_more}
-use Rattle.s66_isa.specs.Lists.{tally, weigh}
-use Rattle.s66_isa.specs.Table.{Instr, Row, all_kinds, kind_number, kind_of, same_kind, row}
-use Rattle.s66_isa.specs.declared.instr.Kind.{Kind}
-use Rattle.s66_isa.specs.declared.instr.Kind.TheVariants.{Boolean, Shift, Add, LongAdd, Multiply, Divide, Increment}
-use Rattle.s66_isa.specs.declared.profile.Profile.{Profile}
+use Rattle.std.proofs.lemmas.List.{take_more}
+use Rattle.s66_isa.specs.{tally, weigh, Row, all_kinds, kind_number, kind_of, same_kind, row, Kind, Boolean, Shift, Add, LongAdd, Multiply, Divide, Increment, Profile}
+use Rattle.s66_isa.specs.Table.{Instr}
 use Rattle.s66_isa.proofs.Lists.{cases_le, weigh-append, weigh-same, tally-append}
-use Rattle.s66_time.specs.KeptUnits.{first_kept, word_count}
-use Rattle.s66_time.specs.LatestWords.{words_from, kept_in, AreLatest}
-use Rattle.s66_time.specs.Places.{first_unit}
-use Rattle.s66_time.specs.declared.limits.TheConstants.{UNITS_AT}
+use Rattle.s66_time.specs.{first_kept, word_count, words_from, kept_in, AreLatest, first_unit, UNITS_AT}
 use Rattle.s66_time.proofs.RowsOfBlock.{row-kind}
 use Rattle.s66_time.proofs.WorkOfKinds.{kinds-few}
 

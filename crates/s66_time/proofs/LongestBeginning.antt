@@ -1,15 +1,13 @@
 -- The longest legal beginning of a list of numbers.
-use Rattle.std.proofs.Common.{ℕ, ◌+◌, ◌≤◌, ◌<◌, ◌≡◌, true, false, List, [], ◌∷◌, ◌++◌, length, get_or, take, drop, sym, subst, ap, arith, append_assoc, inl, inr, ◌∙◌}
-use Rattle.std.proofs.lemmas.Bool.{true≢false}
-use Rattle.std.proofs.lemmas.List.{append-nil, take_more, take_all, take-append-drop, length-append}
-use Rattle.s66_isa.specs.declared.instr.Instr.{Instr}
-use Rattle.s66_model.specs.LegalOrder.{IsLegal, IsFront, IsBeginning, is_ready}
+use Rattle.std.proofs.Common.{ℕ, ◌+◌, ◌≤◌, ◌<◌, ◌≡◌, true, false, List, [], ◌∷◌, ◌++◌, length, get_or, take, drop, sym, subst, ap, arith, append_assoc, inl, inr, ◌∙◌, true≢false, append-nil, take_all}
+use Rattle.std.proofs.Common.{take-append-drop, length-append}
+use Rattle.std.proofs.lemmas.List.{take_more}
+use Rattle.s66_isa.specs.{Instr, BLOCK_LIMIT}
+use Rattle.s66_model.specs.{IsLegal, IsFront, IsBeginning, is_ready}
 use Rattle.s66_model.proofs.LegalOrders.{GoesOn-append, order-legal}
 use Rattle.s66_model.proofs.Beginnings.{front-beginning, beginning-front}
 use Rattle.s66_model.proofs.MeaningOfOrders.{legal-meaning}
-use Rattle.s66_isa.specs.declared.limits.TheConstants.{BLOCK_LIMIT}
-use Rattle.s66_time.specs.Ordered.{IsOrdered}
-use Rattle.s66_time.specs.Refusal.{IsLongestBeginning}
+use Rattle.s66_time.specs.{IsOrdered, IsLongestBeginning}
 
 -- it has at most as many numbers as the block
 pub front-few : (block : List Instr) (prefix : List ℕ) → IsFront block prefix → length prefix ≤ length block

@@ -2,26 +2,16 @@
 use Rattle.std.proofs.Common.{ℕ, suc, ◌+◌, ◌^◌, ◌≤◌, ◌<◌, ◌≡◌, ◌∙◌, Bool, cond, max, min, List, [], ◌∷◌, length, get_or, refl, sym, ap, arith, inl, inr, leb, ltb}
 use Rattle.std.proofs.lemmas.Bool.{cases_Bool, cond_both}
 use Rattle.std.proofs.Math.ListN.{get_or-eq_default}
-use Rattle.s66_isa.specs.Lists.{greatest, tally, weigh, rising}
-use Rattle.s66_isa.specs.Registers.{register_at}
-use Rattle.s66_isa.specs.RegisterIndices.{register_at-index}
-use Rattle.s66_isa.specs.Table.{Instr, Reg, Row, copies_of, has_reg, touches, stores, same_kind, kind_of, idle_instr}
-use Rattle.s66_isa.specs.declared.instr.Kind.{Kind}
-use Rattle.s66_isa.specs.declared.profile.Profile.{Profile}
+use Rattle.s66_isa.specs.{greatest, tally, weigh, rising, register_at, register_at-index, Row, copies_of, has_reg, touches, stores, same_kind, kind_of, idle_instr, Kind, Profile}
+use Rattle.s66_isa.specs.Table.{Instr, Reg}
 use Rattle.s66_isa.proofs.Lists.{greatest-le-greatest}
 use Rattle.s66_isa.proofs.RegisterBits.{register_at-digit}
-use Rattle.s66_model.specs.Timing.{Problem, Point, row_at, point_of, points_after, points_of, total, done_of, readers_wait, copies}
-use Rattle.s66_model.specs.Dominance.{insert_falling, free_times}
-use Rattle.s66_model.specs.LegalOrder.{IsBeginning}
+use Rattle.s66_model.specs.{Problem, Point, row_at, point_of, points_after, points_of, total, done_of, readers_wait, copies, insert_falling, free_times, IsBeginning}
 use Rattle.s66_model.proofs.FreeTimes.{Falling, busy-later, free_times-falling, busy-places}
 use Rattle.s66_model.proofs.Issue.{done_of-le-total}
 use Rattle.s66_model.proofs.LegalOrders.{sum_remaining-run}
 use Rattle.s66_model.proofs.PointTimes.{point_of-row}
-use Rattle.s66_time.specs.ClockWords.{IsWords, InTurn, Tells}
-use Rattle.s66_time.specs.KeptUnits.{kept_of}
-use Rattle.s66_time.specs.LatestWords.{AreFalling, AreLatest}
-use Rattle.s66_time.specs.Places.{first_unit, units_of}
-use Rattle.s66_time.specs.declared.words.Words.{Words}
+use Rattle.s66_time.specs.{IsWords, InTurn, Tells, kept_of, AreFalling, AreLatest, first_unit, units_of, Words}
 use Rattle.s66_time.proofs.ClockPoints.{unit-greatest, units-small}
 use Rattle.s66_time.proofs.RowsOfBlock.{row-kind}
 

@@ -1,23 +1,17 @@
 -- No word of a mark is later than another's, or than a clamp, exactly if its points are no later.
 use Rattle.std.proofs.Common.{ℕ, ◌+◌, ◌-◌, ◌≤◌, ◌<◌, ◌≡◌, max, List, [], get_or, refl, sym, arith, inl, inr, subst}
 use Rattle.std.proofs.lemmas.Bool.{cases_eq}
-use Rattle.s66_isa.specs.Registers.{index_of, register_at}
-use Rattle.s66_isa.specs.RegisterIndices.{register_at-index}
+use Rattle.s66_isa.specs.{index_of, register_at, register_at-index, Kind}
 use Rattle.s66_isa.specs.Table.{Reg}
-use Rattle.s66_isa.specs.declared.instr.Kind.{Kind}
 use Rattle.s66_isa.proofs.Lists.{cases_le}
 use Rattle.s66_isa.proofs.RegisterBits.{index-few, register_at-digit}
-use Rattle.s66_model.specs.Timing.{Problem, copies, points_of, next}
-use Rattle.s66_model.specs.Dominance.{Clamp, clamp_at, free_times, IsNoLater, IsSameSet, DominatesBy}
-use Rattle.s66_time.proofs.LongestBeginning.{beginning-few}
-use Rattle.s66_time.specs.KeptUnits.{kept_of, first_kept}
-use Rattle.s66_time.specs.Marks.{IsMarkOf}
-use Rattle.s66_time.specs.declared.limits.TheConstants.{TOTAL_LIMIT}
-use Rattle.s66_time.specs.declared.mark.Mark.{Mark}
+use Rattle.s66_model.specs.{Problem, copies, points_of, next, Clamp, clamp_at, free_times, IsNoLater, IsSameSet, DominatesBy}
 use Rattle.s66_model.proofs.LoadBound.{next-le-total}
+use Rattle.s66_model.proofs.LowRegisters.{low-points}
+use Rattle.s66_time.specs.{kept_of, first_kept, IsMarkOf, TOTAL_LIMIT, Mark}
+use Rattle.s66_time.proofs.LongestBeginning.{beginning-few}
 use Rattle.s66_time.proofs.Clocks.{in-turn}
 use Rattle.s66_time.proofs.KeptUnits.{kept-within, place-kind}
-use Rattle.s66_model.proofs.LowRegisters.{low-points}
 use Rattle.s66_time.proofs.MarkedWords.{none-free}
 
 -- the words from a place on and before another

@@ -1,21 +1,16 @@
 -- What a number makes ready when it is placed: of those that depend on it, only such as do so directly.
-use Rattle.std.proofs.Common.{ℕ, ◌+◌, ◌-◌, ◌≤◌, ◌<◌, ◌≡◌, ◌≢◌, ◌⊎◌, Bool, true, false, true≢false, not, ◌&&◌, ◌||◌, ◌==◌, List, [], ◌∷◌, ◌++◌, length, get_or, map, filter, refl, sym, ap, subst, arith, inl, inr, eqb, eqb-true, eq-eqb, append_assoc, ◌∙◌}
 use Rattle.std.specs.Cmp.{both_ways}
+use Rattle.std.proofs.Common.{ℕ, ◌+◌, ◌-◌, ◌≤◌, ◌<◌, ◌≡◌, ◌≢◌, ◌⊎◌, Bool, true, false, true≢false, not, ◌&&◌, ◌||◌, ◌==◌, List, [], ◌∷◌, ◌++◌, length, get_or, map, filter, refl, sym, ap, subst, arith}
+use Rattle.std.proofs.Common.{inl, inr, eqb, eqb-true, eq-eqb, append_assoc, ◌∙◌, append-nil}
 use Rattle.std.proofs.lemmas.Bool.{and_parts, and_from, or_cases, or_parts, or_from, or_left, or_right, cases_eq, cases_Bool, not_from_false, not-true}
-use Rattle.std.proofs.lemmas.List.{append-nil, length-map}
-use Rattle.s66_isa.specs.declared.limits.TheConstants.{BLOCK_LIMIT}
-use Rattle.s66_isa.specs.declared.instr.Instr.{Instr}
-use Rattle.s66_isa.specs.Lists.{has, Among, every, some_of, rising}
-use Rattle.s66_isa.specs.Table.{numbers}
+use Rattle.std.proofs.lemmas.List.{length-map}
+use Rattle.s66_isa.specs.{BLOCK_LIMIT, Instr, has, Among, every, some_of, rising, numbers, Set, numbers_in, no_set}
 use Rattle.s66_isa.proofs.Lists.{every-each, each-every, has-among, among-has}
-use Rattle.s66_model.specs.Dependence.{depends, needs, all_needs}
-use Rattle.s66_model.specs.LegalOrder.{is_ready, ready, GoesOn, IsBeginning}
+use Rattle.s66_isa.proofs.Sets.{within-parts, within-from, filter-within, filter-same, numbers_in-filter}
+use Rattle.s66_model.specs.{depends, needs, all_needs, is_ready, ready, GoesOn, IsBeginning}
 use Rattle.s66_model.proofs.Beginnings.{length-rising}
 use Rattle.s66_model.proofs.LegalOrders.{has-push, has_push-other, ready-parts, ready-from, needs-each, each-needs, depends-lt, depends-from}
-use Rattle.s66_isa.specs.declared.set.Set.{Set}
-use Rattle.s66_isa.specs.Members.{numbers_in, no_set}
-use Rattle.s66_time.specs.Opens.{needs_of, is_direct, opens, all_opens}
-use Rattle.s66_isa.proofs.Sets.{within-parts, within-from, filter-within, filter-same, numbers_in-filter}
+use Rattle.s66_time.specs.{needs_of, is_direct, opens, all_opens}
 use Rattle.s66_time.proofs.Readiness.{needs-depends, depends-needs, get_or-needs, needs-at, has-ready}
 
 -- WHAT A NUMBER OPENS

@@ -1,17 +1,14 @@
 -- The point at each position of an order is that of its number, placed after those in front of it.
-use Rattle.std.proofs.Common.{ℕ, ◌+◌, ◌≤◌, ◌<◌, ◌≡◌, List, [], ◌∷◌, ◌++◌, refl, sym, ap, arith, length, length-take, take, drop, get_or, map, reverse, ◌∙◌}
-use Rattle.std.proofs.lemmas.List.{get_or-map, get_or_append_left, length-map, length-reverse, map_push, reverse-append, take_more, take-append-drop}
+use Rattle.std.proofs.Common.{ℕ, ◌+◌, ◌≤◌, ◌<◌, ◌≡◌, List, [], ◌∷◌, ◌++◌, refl, sym, ap, arith, length, length-take, take, drop, get_or, map, reverse, ◌∙◌, take-append-drop}
+use Rattle.std.proofs.lemmas.List.{get_or-map, get_or_append_left, length-map, length-reverse, map_push, reverse-append, take_more}
 use Rattle.std.proofs.Math.Seq.{get_or-append_seam}
-use Rattle.s66_isa.specs.declared.limits.TheConstants.{BLOCK_LIMIT}
-use Rattle.s66_model.specs.Timing.{Problem, Point, row_at, point_of, points_after, points_of, total}
+use Rattle.s66_isa.specs.{BLOCK_LIMIT}
+use Rattle.s66_model.specs.{Problem, Point, row_at, point_of, points_after, points_of, total}
 use Rattle.s66_model.proofs.Growth.{total-le}
 use Rattle.s66_model.proofs.PointTimes.{point_of-number, point_of-row, points_after-append, points_after-length, hold-le-free}
 use Rattle.s66_model.proofs.PointTimes as points
-use Rattle.s66_time.specs.declared.limits.TheConstants.{TOTAL_LIMIT}
-use Rattle.s66_time.specs.declared.timed.Times.{Times}
-use Rattle.s66_time.specs.TimedOrder.{TimedOrder, point_at, no_point}
-use Rattle.s66_time.specs.ClockWords.{InTurn}
-use Rattle.s66_time.specs.KeptTimes.{times_of, times_in}
+use Rattle.s66_time.specs.{TOTAL_LIMIT, Times, point_at, no_point, InTurn, times_of, times_in}
+use Rattle.s66_time.specs.TimedOrder.{TimedOrder}
 use Rattle.s66_time.proofs.Clocks.{early-point_of, in-turn}
 
 -- ONE MORE NUMBER

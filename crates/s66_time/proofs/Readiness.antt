@@ -1,15 +1,13 @@
 -- Readiness by what is placed and by what each number needs.
-use Rattle.std.proofs.Common.{ℕ, zero, suc, ◌+◌, ◌-◌, ◌≤◌, ◌<◌, ◌≡◌, Bool, true, false, not, ◌&&◌, ◌||◌, ◌==◌, IsTrue, ◌↔◌, List, [], ◌∷◌, length, get_or, map, refl, sym, ap, arith, leb, ltb, eqb-true, ◌∙◌}
 use Rattle.std.specs.Cmp.{both_ways}
-use Rattle.std.proofs.lemmas.Bool.{and_parts, and_from, and_left, le-ltb, lt-ltb, not_from_false, not-true}
-use Rattle.s66_isa.specs.declared.instr.Instr.{Instr}
-use Rattle.s66_isa.specs.Lists.{has, rising, every}
-use Rattle.s66_isa.specs.Table.{instr_at}
+use Rattle.std.proofs.Common.{ℕ, zero, suc, ◌+◌, ◌-◌, ◌≤◌, ◌<◌, ◌≡◌, Bool, true, false, not, ◌&&◌, ◌||◌, ◌==◌, IsTrue, ◌↔◌, List, [], ◌∷◌, length, get_or, map, refl, sym, ap, arith, leb, ltb}
+use Rattle.std.proofs.Common.{eqb-true, ◌∙◌, le-ltb, lt-ltb}
+use Rattle.std.proofs.lemmas.Bool.{and_parts, and_from, and_left, not_from_false, not-true}
+use Rattle.s66_isa.specs.{Instr, has, rising, every, instr_at}
 use Rattle.s66_isa.proofs.Lists.{every-each, each-every, has-among, among-has}
-use Rattle.s66_model.specs.Dependence.{conflict, depends, needs, all_needs}
-use Rattle.s66_model.specs.LegalOrder.{needs_met, is_ready, ready}
-use Rattle.s66_model.proofs.LegalOrders.{ready-parts, ready-from, needs-each, each-needs, depends-lt, depends-from}
 use Rattle.s66_isa.proofs.Sets.{within, within-parts, within-from, filter-every, filter-within}
+use Rattle.s66_model.specs.{conflict, depends, needs, all_needs, needs_met, is_ready, ready}
+use Rattle.s66_model.proofs.LegalOrders.{ready-parts, ready-from, needs-each, each-needs, depends-lt, depends-from}
 
 -- WHAT A NUMBER NEEDS
 

@@ -1,18 +1,13 @@
 -- What remains after a beginning, and those of it that pass a test, as sets.
-use Rattle.std.proofs.Common.{ℕ, ◌+◌, ◌≤◌, ◌≡◌, Bool, true, false, not, ◌&&◌, List, length, refl, sym, subst, ap, arith, ltb, leb, ◌∙◌}
-use Rattle.std.proofs.lemmas.Bool.{and_parts, and_from, le-leb, leb-true}
 use Rattle.std.specs.Cmp.{both_ways}
-use Rattle.std.specs.List.{filter}
-use Rattle.s66_isa.specs.declared.limits.TheConstants.{BLOCK_LIMIT}
-use Rattle.s66_isa.specs.Lists.{has, rising, Among}
-use Rattle.s66_isa.specs.Table.{Instr, numbers}
+use Rattle.std.proofs.Common.{ℕ, ◌+◌, ◌≤◌, ◌≡◌, Bool, true, false, not, ◌&&◌, List, length, refl, sym, subst, ap, arith, ltb, leb, ◌∙◌, le-leb, leb-true, filter}
+use Rattle.std.proofs.lemmas.Bool.{and_parts, and_from}
+use Rattle.s66_isa.specs.{BLOCK_LIMIT, has, rising, Among, numbers, Set, numbers_in}
+use Rattle.s66_isa.specs.Table.{Instr}
 use Rattle.s66_isa.proofs.Lists.{filter-filter, has-among, among-has, among-rising, rising-among}
-use Rattle.s66_model.specs.Timing.{Problem}
-use Rattle.s66_model.specs.LegalOrder.{is_remaining, remaining}
-use Rattle.s66_model.proofs.Remaining.{remaining-parts, remaining-among}
-use Rattle.s66_isa.specs.declared.set.Set.{Set}
-use Rattle.s66_isa.specs.Members.{numbers_in}
 use Rattle.s66_isa.proofs.Sets.{within, within-from, within-parts, filter-within, numbers_in-filter}
+use Rattle.s66_model.specs.{Problem, is_remaining, remaining}
+use Rattle.s66_model.proofs.Remaining.{remaining-parts, remaining-among}
 
 -- ALL BUT THE PUSHED ONES
 

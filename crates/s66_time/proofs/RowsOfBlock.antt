@@ -1,10 +1,10 @@
 -- The rows that a clock works out once are those of its block's instructions.
 use Rattle.std.proofs.Common.{ℕ, zero, suc, ◌≡◌, ◌≤◌, ◌<◌, List, [], ◌∷◌, refl, ap, sym, ◌∙◌, map, get_or, length, arith, inl, inr}
 use Rattle.std.proofs.lemmas.List.{get_or-map}
-use Rattle.s66_isa.specs.Table.{Instr, Row, row, kind_of, instr_at, idle_instr}
-use Rattle.s66_isa.specs.declared.profile.Profile.{Profile}
+use Rattle.s66_isa.specs.Table.{Instr}
+use Rattle.s66_isa.specs.{Row, row, kind_of, instr_at, idle_instr, Profile}
 use Rattle.s66_isa.proofs.Lists.{cases_le}
-use Rattle.s66_model.specs.Digits.{HasDigits}
+use Rattle.s66_model.specs.{HasDigits}
 
 -- the row of a number
 pub row-at : (p : Profile) (is : List Instr) (rows : List Row) (place n : ℕ) (d : Row) → rows ≡ map (row p) is → d ≡ get_or rows place d → n ≡ suc place → place < length is → d ≡ row p (instr_at is n)

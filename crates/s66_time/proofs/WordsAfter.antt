@@ -1,13 +1,12 @@
 -- The registers whose words are after a time, as far as a loop has looked at them (`RegisterWords::after`).
-use Rattle.std.proofs.Common.{ℕ, ◌+◌, ◌≤◌, ◌<◌, ◌≡◌, ◌⊎◌, ◌&&◌, ◌||◌, List, [], get_or, ltb, sym, ap, arith, inl, inr, ◌∙◌}
-use Rattle.std.proofs.lemmas.Bool.{cases_eq, cases_lt, cases_Bool, and_left, and_right, and_from, or_left, lt-ltb, le-ltb}
-use Rattle.s66_isa.specs.Table.{Reg, same_reg, has_reg}
-use Rattle.s66_isa.specs.Registers.{index_of, register_at, word_of, registers_in}
-use Rattle.s66_isa.specs.RegisterIndices.{register_at-index}
+use Rattle.std.proofs.Common.{ℕ, ◌+◌, ◌≤◌, ◌<◌, ◌≡◌, ◌⊎◌, ◌&&◌, ◌||◌, List, [], get_or, ltb, sym, ap, arith, inl, inr, ◌∙◌, lt-ltb, le-ltb}
+use Rattle.std.proofs.lemmas.Bool.{cases_eq, cases_lt, cases_Bool, and_left, and_right, and_from, or_left}
+use Rattle.s66_isa.specs.Table.{Reg}
+use Rattle.s66_isa.specs.{same_reg, has_reg, index_of, register_at, word_of, registers_in, register_at-index}
 use Rattle.s66_isa.specs.declared.registers.Registers.{Registers}
 use Rattle.s66_isa.proofs.RegisterBits.{index-apart, index-few, register_at-digit}
 use Rattle.s66_isa.proofs.SameRegister.{same_reg-true}
-use Rattle.s66_time.specs.ClockWords.{Tells}
+use Rattle.s66_time.specs.{Tells}
 
 abbrev pub AreAfter : List ℕ → ℕ → ℕ → Registers → Type 0
 AreAfter words time index set = (r : Reg) → r.digit ≤ 7 → has_reg r (registers_in set) ≡ (ltb (index_of r) index && ltb time (word_of words r))

@@ -1,17 +1,9 @@
 -- The work of each kind by the points that were pushed.
-use Rattle.std.proofs.Common.{ℕ, ◌+◌, ◌*◌, ◌≤◌, ◌≡◌, ◌≢◌, true≢false, List, [], ◌∷◌, length, set, get_or, sym, ap, arith, inl, inr, ◌∙◌, eqb-true, eq-eqb}
+use Rattle.std.proofs.Common.{ℕ, ◌+◌, ◌*◌, ◌≤◌, ◌≡◌, ◌≢◌, true≢false, List, [], ◌∷◌, length, set, get_or, sym, ap, arith, inl, inr, ◌∙◌, eqb-true, eq-eqb, get_or-set_same, get_or-set_other}
 use Rattle.std.proofs.lemmas.Bool.{cases_Bool, cond_both, cond-true, cond-false}
-use Rattle.std.proofs.lemmas.List.{get_or-set_same, get_or-set_other}
-use Rattle.s66_isa.specs.Table.{kind_number, same_kind}
-use Rattle.s66_isa.specs.declared.instr.Kind.{Kind}
-use Rattle.s66_isa.specs.declared.instr.Kind.TheVariants.{Boolean, Shift, Add, LongAdd, Multiply, Divide, Increment}
-use Rattle.s66_isa.specs.declared.profile.Profile.{Profile}
-use Rattle.s66_isa.specs.Lists.{greatest}
-use Rattle.s66_model.specs.Timing.{Point}
-use Rattle.s66_model.specs.Leaves.{work_of}
-use Rattle.s66_time.specs.declared.words.Words.{Words}
-use Rattle.s66_time.specs.declared.limits.TheConstants.{WORK_LIMIT}
-use Rattle.s66_time.specs.ClockWords.{worked_of, AreWordsInTurn}
+use Rattle.s66_isa.specs.{kind_number, same_kind, Kind, Boolean, Shift, Add, LongAdd, Multiply, Divide, Increment, Profile, greatest}
+use Rattle.s66_model.specs.{Point, work_of}
+use Rattle.s66_time.specs.{Words, WORK_LIMIT, worked_of, AreWordsInTurn}
 
 pub kinds-few : (kind : Kind) → kind_number kind ≤ 6
 kinds-few Boolean = omega arith

@@ -1,19 +1,10 @@
 -- Used by contracts within the crate alone: what the words of a clock are, by the points of what was pushed.
 use Rattle.std.specs.Prelude.{map, ◌==◌, ◌||◌, ℕ, ◌+◌, ◌≡◌, ◌≤◌, ◌<◌, if◌then◌else◌, max, min, List, [], ◌∷◌, length, get_or, set, take, nat_lt, ◌-◌}
-use Rattle.s66_isa.specs.Table.{Reg, Row, touches, stores, kind_number, copies_of, same_reg, has_reg}
-use Rattle.s66_isa.specs.declared.instr.Kind.{Kind}
-use Rattle.s66_isa.specs.declared.instr.TheConstants.{KIND_COUNT}
-use Rattle.s66_isa.specs.declared.instr.Memory.{Memory}
+use Rattle.s66_isa.specs.Table.{Reg}
+use Rattle.s66_isa.specs.{Row, touches, stores, kind_number, copies_of, same_reg, has_reg, Kind, KIND_COUNT, Memory, Profile, greatest, tally, weigh, has, BLOCK_LIMIT, numbers_in, word_of}
 use Rattle.s66_isa.specs.declared.instr.Memory.TheVariants as memory
-use Rattle.s66_isa.specs.declared.profile.Profile.{Profile}
-use Rattle.s66_isa.specs.Lists.{greatest, tally, weigh, has}
-use Rattle.s66_model.specs.Timing.{Problem, Point, ResultAt, end_of, done_of, last_done, readers_wait, busy_at, next, next_parcel, total, point_of}
-use Rattle.s66_isa.specs.declared.limits.TheConstants.{BLOCK_LIMIT}
-use Rattle.s66_model.specs.Leaves.{work_of}
-use Rattle.s66_model.specs.Dominance.{references_wait, stores_wait}
-use Rattle.s66_isa.specs.Members.{numbers_in}
+use Rattle.s66_model.specs.{Problem, Point, ResultAt, end_of, done_of, last_done, readers_wait, busy_at, next, next_parcel, total, point_of, work_of, references_wait, stores_wait}
 use Rattle.s66_time.specs.declared.limits.TheConstants.{TOTAL_LIMIT, UNIT_LIMIT}
-use Rattle.s66_isa.specs.Registers.{word_of}
 use Rattle.s66_time.specs.Places.{first_unit, units_of, put_back}
 use Rattle.s66_time.specs.declared.copies.Copies.{Copies}
 use Rattle.s66_time.specs.declared.words.Words.{Words}

@@ -1,8 +1,8 @@
 -- Used by contracts within the crate alone: what is stored of an instruction, in words, to find its dependences.
 use Rattle.std.specs.Prelude.{ℕ, ◌+◌, ◌<◌, ◌≡◌, ◌||◌, Bool, List, length, get_or}
-use Rattle.s66_isa.specs.Table.{Reg, Instr, has_reg, reads_of, results_of, memory_of, memory_pair, instr_at}
-use Rattle.s66_isa.specs.Registers.{registers_in}
-use Rattle.s66_model.specs.Dependence.{share}
+use Rattle.s66_isa.specs.Table.{Reg, Instr}
+use Rattle.s66_isa.specs.{has_reg, reads_of, results_of, memory_of, memory_pair, instr_at, registers_in}
+use Rattle.s66_model.specs.{share}
 use Rattle.s66_time.specs.declared.graph.effects.Effects.{Effects}
 
 -- the sets hold the registers that it reads and those that it writes

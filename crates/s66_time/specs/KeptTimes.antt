@@ -1,9 +1,7 @@
 -- Used by contracts within the crate alone: what a timed order keeps are the times of its points.
 use Rattle.std.specs.Prelude.{ℕ, ◌≡◌, ◌≤◌, List, length, map, reverse}
-use Rattle.s66_model.specs.Timing.{Problem, Point, latest_result, points_of, total_of}
-use Rattle.s66_isa.specs.declared.limits.TheConstants.{BLOCK_LIMIT}
-use Rattle.s66_model.specs.LegalOrder.{IsLegal}
-use Rattle.s66_model.specs.Packing.{fillers, len_at}
+use Rattle.s66_isa.specs.{BLOCK_LIMIT}
+use Rattle.s66_model.specs.{Problem, Point, latest_result, points_of, total_of, IsLegal, fillers, len_at}
 use Rattle.s66_time.specs.declared.timed.Times.{Times}
 
 abbrev pub times_of : Point → Times

@@ -1,9 +1,8 @@
 -- Used by contracts: how many free times of each kind of unit a mark keeps, and where they are among its words.
 use Rattle.std.specs.Prelude.{ℕ, ◌+◌, min, take}
-use Rattle.s66_isa.specs.Lists.{tally, weigh}
-use Rattle.s66_isa.specs.Table.{Instr, all_kinds, kind_number, kind_of, same_kind}
-use Rattle.s66_isa.specs.declared.instr.Kind.{Kind}
-use Rattle.s66_model.specs.Timing.{Problem, copies}
+use Rattle.s66_isa.specs.{tally, weigh, all_kinds, kind_number, kind_of, same_kind, Kind}
+use Rattle.s66_isa.specs.Table.{Instr}
+use Rattle.s66_model.specs.{Problem, copies}
 use Rattle.s66_time.specs.declared.limits.TheConstants.{UNITS_AT}
 
 -- one for each copy, but no more than the block has instructions of the kind

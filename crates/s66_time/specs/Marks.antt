@@ -1,14 +1,9 @@
 -- Used by contracts: what a mark is, of a beginning of a problem's legal orders. What `Clock::mark` gives, `dominates` takes: what is in it need not be known.
 use Rattle.std.specs.Prelude.{ℕ, ◌+◌, ◌≡◌, ◌≤◌, ◌<◌, List, length, get_or}
-use Rattle.s66_isa.specs.Registers.{index_of}
+use Rattle.s66_isa.specs.{index_of, Kind, BLOCK_LIMIT}
 use Rattle.s66_isa.specs.Table.{Reg}
-use Rattle.s66_isa.specs.declared.instr.Kind.{Kind}
-use Rattle.s66_isa.specs.declared.limits.TheConstants.{BLOCK_LIMIT}
-use Rattle.s66_model.specs.Timing.{Problem, points_of, next, total_of, done_of, readers_wait}
-use Rattle.s66_model.specs.Dominance.{place_in_word, references_wait, stores_wait, free_times}
-use Rattle.s66_model.specs.LegalOrder.{IsBeginning}
+use Rattle.s66_model.specs.{Problem, points_of, next, total_of, done_of, readers_wait, place_in_word, references_wait, stores_wait, free_times, IsBeginning, HaveDigits}
 use Rattle.s66_time.specs.KeptUnits.{kept_of, first_kept, word_count}
-use Rattle.s66_model.specs.Digits.{HaveDigits}
 use Rattle.s66_time.specs.declared.limits.TheConstants.{READERS_AT, REFERENCES_AT, STORES_AT}
 use Rattle.s66_time.specs.declared.mark.Mark.{Mark}
 

@@ -1,10 +1,6 @@
 -- Used by contracts within the crate alone: which numbers depend on one directly, by the lists of what each number needs.
-use Rattle.std.specs.Prelude.{ℕ, ◌-◌, ◌≡◌, ◌≤◌, Bool, ◌&&◌, not, List, [], length, map, get_or}
-use Rattle.std.specs.List.{filter}
-use Rattle.s66_isa.specs.declared.limits.TheConstants.{BLOCK_LIMIT}
-use Rattle.s66_isa.specs.Lists.{has, some_of, rising}
-use Rattle.s66_isa.specs.declared.set.Set.{Set}
-use Rattle.s66_isa.specs.Members.{numbers_in}
+use Rattle.std.specs.Prelude.{ℕ, ◌-◌, ◌≡◌, ◌≤◌, Bool, ◌&&◌, not, List, [], length, map, get_or, filter}
+use Rattle.s66_isa.specs.{BLOCK_LIMIT, has, some_of, rising, Set, numbers_in}
 
 -- what n needs
 abbrev pub needs_of : List (List ℕ) → ℕ → List ℕ

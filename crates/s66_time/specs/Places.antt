@@ -1,8 +1,6 @@
 -- Used by contracts within the crate alone: where the words of a clock are.
 use Rattle.std.specs.Prelude.{ℕ, ◌*◌, List, [], ◌∷◌, set, take, drop}
-use Rattle.s66_isa.specs.Table.{kind_number, copies_of}
-use Rattle.s66_isa.specs.declared.instr.Kind.{Kind}
-use Rattle.s66_isa.specs.declared.profile.Profile.{Profile}
+use Rattle.s66_isa.specs.{kind_number, copies_of, Kind, Profile}
 use Rattle.s66_time.specs.declared.limits.TheConstants.{COPIES_LIMIT}
 use Rattle.s66_time.specs.declared.step.Saved.{Saved}
 

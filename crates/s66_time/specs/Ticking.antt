@@ -1,13 +1,8 @@
 -- To be believed: what contracts see of a clock: what is timed, the numbers that are pushed, and what the last step cost.
 use Rattle.std.specs.Prelude.{ℕ, ◌≡◌, ◌≤◌, List, map, reverse, length}
-use Rattle.s66_isa.specs.declared.instr.Kind.{Kind}
-use Rattle.s66_isa.specs.declared.profile.Profile.{Profile}
-use Rattle.s66_isa.specs.Table.{Row, row}
-use Rattle.s66_model.specs.Timing.{Problem, Point, points_of}
-use Rattle.s66_model.specs.Digits.{HaveDigits}
-use Rattle.s66_model.specs.LegalOrder.{IsBeginning}
-use Rattle.s66_isa.specs.declared.limits.TheConstants.{BLOCK_LIMIT}
-use Rattle.s66_line.specs.Blocks.{Block, instrs_of}
+use Rattle.s66_isa.specs.{Kind, Profile, Row, row, BLOCK_LIMIT}
+use Rattle.s66_model.specs.{Problem, Point, points_of, HaveDigits, IsBeginning}
+use Rattle.s66_line.specs.{Block, instrs_of}
 use Rattle.s66_time.specs.ClockWords.{AreKept, AreCopies}
 use Rattle.s66_time.specs.KeptUnits.{kept_of}
 use Rattle.s66_time.specs.LatestWords.{kept_in}

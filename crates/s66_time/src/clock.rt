@@ -5,9 +5,9 @@
 //! back what the push wrote over (`steps.rt`).
 
 ghost use Rattle.std.specs.Prelude.{◌≡◌, map};
-ghost use Rattle.s66_isa.specs.Table.{row};
-ghost use Rattle.s66_line.specs.Blocks.{instrs_of};
-ghost use Rattle.s66_model.specs.Digits.{HaveDigits};
+ghost use Rattle.s66_isa.specs.{row};
+ghost use Rattle.s66_model.specs.{HaveDigits};
+ghost use Rattle.s66_line.specs.{instrs_of};
 
 use crate::copies::Copies;
 use crate::mark::Mark;
@@ -40,7 +40,7 @@ pub struct Clock<'a> {
 }
 
 impl<'a> Model for Clock<'a> {
-    ghost use Rattle.s66_line.specs.Blocks.{instrs_of};
+    ghost use Rattle.s66_line.specs.{instrs_of};
     ghost use Rattle.s66_time.specs.Ticking.{Ticking, numbers_of, IsTicking};
 
     ghost Value = { Ticking };
@@ -70,18 +70,11 @@ pub fn rows_of(block: &Block<'_>, profile: &Profile) -> ArrayVec<Row, BLOCK_LIMI
 
 impl<'a> Clock<'a> {
     ghost use Rattle.std.specs.Prelude.{ℕ, ◌≡◌, ◌+◌, ◌-◌, ◌*◌, ◌<◌, ◌≤◌, ◌++◌, [], ◌∷◌, true, length, take, nat_le, nat_lt, if◌then◌else◌};
-    ghost use Rattle.s66_isa.specs.Lists.{weigh, has, tally, greatest};
-    ghost use Rattle.s66_isa.specs.Table.{Reg as RegOf, copies_of, kind_of, instr_at, has_reg, memory_pair};
-    ghost use Rattle.s66_isa.specs.Registers.{registers_in};
-    ghost use Rattle.s66_isa.specs.Members.{numbers_in};
-    ghost use Rattle.s66_line.specs.Blocks.{instrs_of};
-    ghost use Rattle.s66_isa.specs.declared.limits.TheConstants.{BLOCK_LIMIT};
-    ghost use Rattle.s66_model.specs.LegalOrder.{is_ready, IsBeginning};
-    ghost use Rattle.s66_model.specs.Timing.{Point, next, total, slot_of, busy_at, done_of, readers_wait};
-    ghost use Rattle.s66_model.specs.Leaves.{rest_busy, work_of};
-    ghost use Rattle.s66_time.specs.Marks.{IsMarkOf};
-    ghost use Rattle.s66_time.specs.Ticking.{points, problem_of};
-    ghost use Rattle.s66_time.specs.declared.limits.TheConstants.{COPIES_LIMIT, LOOK_LIMIT, TOTAL_LIMIT};
+    ghost use Rattle.s66_isa.specs.{weigh, has, tally, greatest, copies_of, kind_of, instr_at, has_reg, memory_pair, registers_in, numbers_in, BLOCK_LIMIT};
+    ghost use Rattle.s66_isa.specs.Table.{Reg as RegOf};
+    ghost use Rattle.s66_line.specs.{instrs_of};
+    ghost use Rattle.s66_model.specs.{is_ready, IsBeginning, Point, next, total, slot_of, busy_at, done_of, readers_wait, rest_busy, work_of};
+    ghost use Rattle.s66_time.specs.{IsMarkOf, points, problem_of, COPIES_LIMIT, LOOK_LIMIT, TOTAL_LIMIT};
 
     /// Before the first push, in time linear in the block's length.
     pub fn new(block: &'a Block<'a>, profile: &Profile) -> Clock<'a>

@@ -1,9 +1,7 @@
 //! How many units of each kind a profile has, by the kind's number.
 
 ghost use Rattle.std.specs.Prelude.{ℕ, ◌≡◌, ◌<◌, ◌≤◌, get_or};
-ghost use Rattle.s66_isa.specs.declared.instr.TheConstants.{KIND_COUNT};
-ghost use Rattle.s66_isa.specs.Table.{kind_number, copies_of};
-ghost use Rattle.s66_isa.specs.declared.instr.Kind.{Kind as KindOf};
+ghost use Rattle.s66_isa.specs.{KIND_COUNT, kind_number, copies_of, Kind as KindOf};
 ghost use Rattle.s66_time.specs.declared.limits.TheConstants.{COPIES_LIMIT};
 
 use s66_isa::{KIND_COUNT, Kind, Profile, kind_number};

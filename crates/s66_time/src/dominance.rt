@@ -2,9 +2,8 @@
 //! done no later.
 
 ghost use Rattle.std.specs.Prelude.{ℕ, ◌≡◌, ◌↔◌, List, IsTrue};
-ghost use Rattle.s66_model.specs.Timing.{Problem, points_of, next, total_of};
-ghost use Rattle.s66_model.specs.Dominance.{IsSameSet, IsNoLater, no_clamp, clamp_at, Dominates, DominatesClamped};
-ghost use Rattle.s66_time.specs.Marks.{IsMarkOf};
+ghost use Rattle.s66_model.specs.{Problem, points_of, next, total_of, IsSameSet, IsNoLater, no_clamp, clamp_at, Dominates, DominatesClamped};
+ghost use Rattle.s66_time.specs.{IsMarkOf};
 
 use crate::limits::{READERS_AT, REFERENCES_AT};
 use crate::mark::Mark;

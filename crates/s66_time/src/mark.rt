@@ -2,8 +2,7 @@
 
 ghost use Rattle.std.specs.Prelude.{◌+◌, ◌%◌, ◌≡◌, ◌≤◌, get_or};
 ghost use Rattle.s66_isa.specs.Table.{Reg};
-ghost use Rattle.s66_isa.specs.Registers.{index_of, word_of};
-ghost use Rattle.s66_isa.specs.declared.instr.Kind.{Kind};
+ghost use Rattle.s66_isa.specs.{index_of, word_of, Kind};
 ghost use Rattle.s66_time.specs.ClockWords.{AreCopies, AreWordsInTurn};
 ghost use Rattle.s66_time.specs.KeptUnits.{first_kept, word_count};
 ghost use Rattle.s66_time.specs.LatestWords.{words_from, kept_in, AreLatest};

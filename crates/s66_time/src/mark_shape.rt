@@ -1,10 +1,7 @@
 //! How many free times of each kind of unit a mark keeps: no more than there are instructions of the kind.
 
 ghost use Rattle.std.specs.Prelude.{◌≡◌, ◌+◌, ◌≤◌, length, min};
-ghost use Rattle.s66_isa.specs.Lists.{tally, weigh};
-ghost use Rattle.s66_isa.specs.Table.{Row as RowOf, all_kinds, same_kind};
-ghost use Rattle.s66_isa.specs.declared.instr.Kind.{Kind as KindOf};
-ghost use Rattle.s66_isa.specs.declared.limits.TheConstants.{BLOCK_LIMIT};
+ghost use Rattle.s66_isa.specs.{tally, weigh, Row as RowOf, all_kinds, same_kind, Kind as KindOf, BLOCK_LIMIT};
 ghost use Rattle.s66_time.specs.LatestWords.{kept_in};
 
 use crate::copies::Copies;

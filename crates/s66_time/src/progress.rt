@@ -2,12 +2,9 @@
 //! is pushed.
 
 ghost use Rattle.std.specs.Prelude.{ℕ, [], ◌==◌, ◌||◌, ◌≡◌, ◌+◌, ◌≤◌, if◌then◌else◌, max};
-ghost use Rattle.s66_isa.specs.Lists.{greatest, has};
-ghost use Rattle.s66_isa.specs.Table.{touches, stores};
-ghost use Rattle.s66_isa.specs.Members.{numbers_in};
-ghost use Rattle.s66_isa.specs.declared.limits.TheConstants.{BLOCK_LIMIT};
-ghost use Rattle.s66_model.specs.Timing.{ResultAt as ResultOf};
-ghost use Rattle.s66_time.specs.declared.limits.TheConstants.{TOTAL_LIMIT};
+ghost use Rattle.s66_isa.specs.{greatest, has, touches, stores, numbers_in, BLOCK_LIMIT};
+ghost use Rattle.s66_model.specs.{ResultAt as ResultOf};
+ghost use Rattle.s66_time.specs.{TOTAL_LIMIT};
 
 use crate::tick::Tick;
 use s66_isa::{Memory, Row, Set};

@@ -1,13 +1,10 @@
 //! A word for each register, a minor cycle: when it is written or when its readers have started.
 
 ghost use Rattle.std.specs.Prelude.{ℕ, ◌≡◌, ◌+◌, ◌<◌, ◌≤◌, map, if◌then◌else◌, length, max, nat_lt, take};
-ghost use Rattle.s66_isa.specs.Lists.{greatest};
-ghost use Rattle.s66_isa.specs.Table.{Reg as RegOf, Write as WriteOf, same_reg, has_reg};
-ghost use Rattle.s66_model.specs.Timing.{ResultAt as ResultOf};
-ghost use Rattle.s66_time.specs.declared.limits.TheConstants.{TOTAL_LIMIT};
-ghost use Rattle.s66_time.specs.ClockWords.{Tells};
-ghost use Rattle.s66_isa.specs.Registers.{word_of, registers_in};
-ghost use Rattle.s66_time.specs.Places.{put_back};
+ghost use Rattle.s66_isa.specs.{greatest, Write as WriteOf, same_reg, has_reg, word_of, registers_in};
+ghost use Rattle.s66_isa.specs.Table.{Reg as RegOf};
+ghost use Rattle.s66_model.specs.{ResultAt as ResultOf};
+ghost use Rattle.s66_time.specs.{TOTAL_LIMIT, Tells, put_back};
 
 use crate::result::ResultAt;
 use crate::step::Saved;

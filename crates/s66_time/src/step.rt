@@ -1,8 +1,7 @@
 //! What one push of a clock wrote over, so that it can be undone.
 
 ghost use Rattle.std.specs.Prelude.{◌<◌, ◌≤◌};
-ghost use Rattle.s66_isa.specs.declared.instr.TheConstants.{KIND_COUNT};
-ghost use Rattle.s66_isa.specs.declared.reg.TheConstants.{REGISTER_COUNT};
+ghost use Rattle.s66_isa.specs.{KIND_COUNT, REGISTER_COUNT};
 ghost use Rattle.s66_time.specs.declared.limits.TheConstants.{UNIT_LIMIT};
 
 use crate::progress::Progress;

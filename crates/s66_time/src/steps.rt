@@ -1,7 +1,7 @@
 //! The stack of what the pushes of a clock wrote over.
 
 ghost use Rattle.std.specs.Prelude.{◌≡◌, ◌<◌, ◌≤◌, length, take};
-ghost use Rattle.s66_isa.specs.declared.limits.TheConstants.{BLOCK_LIMIT};
+ghost use Rattle.s66_isa.specs.{BLOCK_LIMIT};
 
 use crate::step::Step;
 use crate::words::Words;
@@ -30,11 +30,9 @@ impl Model for Steps {
 
 impl Steps {
     ghost use Rattle.std.specs.Prelude.{◌≡◌, ◌-◌, ◌<◌, ◌≤◌, ◌++◌, [], ◌∷◌, List, length, take, get_or};
-    ghost use Rattle.s66_isa.specs.Table.{copies_of};
-    ghost use Rattle.s66_model.specs.Timing.{Point, point};
-    ghost use Rattle.s66_time.specs.declared.limits.TheConstants.{COPIES_LIMIT};
-    ghost use Rattle.s66_time.specs.declared.step.Step.{Step as StepOf};
-    ghost use Rattle.s66_time.specs.ClockWords.{under, IsWords, InTurn, AreWordsInTurn, after_undo};
+    ghost use Rattle.s66_isa.specs.{copies_of};
+    ghost use Rattle.s66_model.specs.{Point, point};
+    ghost use Rattle.s66_time.specs.{COPIES_LIMIT, Step as StepOf, under, IsWords, InTurn, AreWordsInTurn, after_undo};
 
     /// No step.
     pub(crate) fn new() -> Steps

@@ -1,11 +1,8 @@
 //! A word for each functional unit, when it is free; and the unit of a kind that is free soonest.
 
 ghost use Rattle.std.specs.Prelude.{ℕ, ◌≡◌, ◌+◌, ◌-◌, ◌*◌, ◌<◌, ◌≤◌, length, get_or, replicate};
-ghost use Rattle.s66_isa.specs.Lists.{greatest, weigh};
-ghost use Rattle.s66_isa.specs.Table.{copies_of};
-ghost use Rattle.s66_isa.specs.declared.instr.Kind.{Kind as KindOf};
-ghost use Rattle.s66_time.specs.declared.limits.TheConstants.{COPIES_LIMIT, TOTAL_LIMIT, UNIT_LIMIT};
-ghost use Rattle.s66_time.specs.Places.{first_unit, units_of};
+ghost use Rattle.s66_isa.specs.{greatest, weigh, copies_of, Kind as KindOf};
+ghost use Rattle.s66_time.specs.{COPIES_LIMIT, TOTAL_LIMIT, UNIT_LIMIT, first_unit, units_of};
 
 use crate::limits::{COPIES_LIMIT, UNIT_LIMIT};
 use s66_isa::{KINDS, Kind, Profile, kind_number};

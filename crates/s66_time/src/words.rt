@@ -3,14 +3,9 @@
 //! of conflict of the 6600's scoreboard (J. E. Thornton, Design of a Computer: The Control Data 6600).
 
 ghost use Rattle.std.specs.Prelude.{ℕ, ◌≡◌, ◌+◌, ◌-◌, ◌^◌, ◌<◌, ◌≤◌, List, [], ◌∷◌, length, get_or};
-ghost use Rattle.s66_isa.specs.Table.{copies_of, kind_number};
-ghost use Rattle.s66_isa.specs.declared.profile.Profile.{Profile as ProfileOf};
-ghost use Rattle.s66_isa.specs.declared.limits.TheConstants.{BLOCK_LIMIT};
-ghost use Rattle.s66_model.specs.Packing.{fits_at};
-ghost use Rattle.s66_isa.specs.Rows.{IsInRange};
-ghost use Rattle.s66_model.specs.Timing.{Point, issue_of, start_of, point};
-ghost use Rattle.s66_time.specs.declared.limits.TheConstants.{COPIES_LIMIT, TOTAL_LIMIT, UNIT_LIMIT, WORK_LIMIT};
-ghost use Rattle.s66_time.specs.ClockWords.{under, IsWords, InTurn, IsSoonest, AreWordsInTurn, wait_of, point_of_tick, after_undo, Takes};
+ghost use Rattle.s66_isa.specs.{copies_of, kind_number, Profile as ProfileOf, BLOCK_LIMIT, IsInRange};
+ghost use Rattle.s66_model.specs.{fits_at, Point, issue_of, start_of, point};
+ghost use Rattle.s66_time.specs.{COPIES_LIMIT, TOTAL_LIMIT, UNIT_LIMIT, WORK_LIMIT, under, IsWords, InTurn, IsSoonest, AreWordsInTurn, wait_of, point_of_tick, after_undo, Takes};
 
 use crate::progress::Progress;
 use crate::registers::RegisterWords;

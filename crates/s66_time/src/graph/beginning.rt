@@ -1,9 +1,9 @@
 //! Whether numbers are a legal beginning of an order (`is_beginning`), by one look at each pair.
 
 ghost use Rattle.std.specs.Prelude.{◌≤◌, ◌↔◌, IsTrue, length};
-ghost use Rattle.s66_model.specs.LegalOrder.{IsFront, IsBeginning};
-ghost use Rattle.s66_line.specs.Blocks.{instrs_of};
-ghost use Rattle.s66_time.specs.Refusal.{IsLongestBeginning};
+ghost use Rattle.s66_model.specs.{IsFront, IsBeginning};
+ghost use Rattle.s66_line.specs.{instrs_of};
+ghost use Rattle.s66_time.specs.{IsLongestBeginning};
 
 use crate::graph::dependence::Dependences;
 use s66_isa::Set;

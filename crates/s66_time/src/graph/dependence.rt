@@ -1,14 +1,12 @@
 //! The dependences of a block (`Dependences`): for each instruction the set of those that must come before it, by one look at each pair
 //! (`effects.rt`); and which are ready after some are placed.
 
-ghost use Rattle.std.specs.Prelude.{◌≡◌, ◌+◌, ◌-◌, ◌≤◌, ◌<◌, List, [], length, get_or};
-ghost use Rattle.s66_isa.specs.Table.{Instr, instr_at};
-ghost use Rattle.s66_model.specs.Dependence.{depends, needs, all_needs};
-ghost use Rattle.s66_model.specs.LegalOrder.{ready};
-ghost use Rattle.s66_line.specs.Blocks.{instrs_of};
-ghost use Rattle.s66_isa.specs.declared.limits.TheConstants.{BLOCK_LIMIT};
-ghost use Rattle.s66_isa.specs.Members.{numbers_in};
-ghost use Rattle.s66_time.specs.Effects.{AreEffects, AreEffectsOf};
+ghost use Rattle.std.specs.Prelude.{◌≡◌, ◌+◌, ◌-◌, ◌≤◌, ◌<◌, List, [], length, get_or, ℕ, map};
+ghost use Rattle.s66_isa.specs.Table.{Instr};
+ghost use Rattle.s66_isa.specs.{instr_at, BLOCK_LIMIT, numbers_in, rising};
+ghost use Rattle.s66_model.specs.{depends, needs, all_needs, ready};
+ghost use Rattle.s66_line.specs.{instrs_of};
+ghost use Rattle.s66_time.specs.{AreEffects, AreEffectsOf};
 
 use crate::graph::effects::Effects;
 use arrayvec::ArrayVec;
@@ -25,10 +23,6 @@ pub struct Dependences {
 }
 
 impl Model for Dependences {
-    ghost use Rattle.std.specs.Prelude.{ℕ, List, ◌≡◌, map, length};
-    ghost use Rattle.s66_isa.specs.Lists.{rising};
-    ghost use Rattle.s66_isa.specs.Members.{numbers_in};
-
     ghost Value = { List (List ℕ) };
 
     ghost view = { λ d. map numbers_in d.needs.items };

@@ -25,7 +25,7 @@ impl Default for Effects {
 
 impl Effects {
     ghost use Rattle.std.specs.Prelude.{◌≡◌};
-    ghost use Rattle.s66_time.specs.Effects.{AreEffects, effects_conflict};
+    ghost use Rattle.s66_time.specs.{AreEffects, effects_conflict};
 
     /// Those of an instruction.
     pub(crate) fn of(instr: &Instr) -> Effects

@@ -1,11 +1,9 @@
 //! Direct dependences (`Openings`): a transitive reduction of the dependence graph, by which what is ready after one more instruction
 //! follows from what was ready before.
 
-ghost use Rattle.std.specs.Prelude.{ℕ, ◌≡◌, ◌≤◌, ◌-◌, List, [], true, length, get_or};
-ghost use Rattle.std.specs.List.{filter};
-ghost use Rattle.s66_isa.specs.Lists.{has, rising};
-ghost use Rattle.s66_isa.specs.Members.{numbers_in, no_set};
-ghost use Rattle.s66_time.specs.Opens.{needs_of, is_direct};
+ghost use Rattle.std.specs.Prelude.{ℕ, ◌≡◌, ◌≤◌, ◌-◌, List, [], true, length, get_or, filter};
+ghost use Rattle.s66_isa.specs.{has, rising, numbers_in, no_set};
+ghost use Rattle.s66_time.specs.{needs_of, is_direct};
 
 use crate::graph::dependence::Dependences;
 use arrayvec::ArrayVec;
@@ -66,14 +64,11 @@ fn opened_by(direct: &[Set], n: u8) -> Set
 
 impl Openings {
     ghost use Rattle.std.specs.Prelude.{ℕ, ◌≡◌, ◌≤◌, ◌++◌, ◌∷◌, [], List, true, length};
-    ghost use Rattle.s66_isa.specs.Lists.{has};
+    ghost use Rattle.s66_isa.specs.{has, BLOCK_LIMIT, numbers_in};
     ghost use Rattle.s66_isa.specs.Table.{Instr};
-    ghost use Rattle.s66_isa.specs.declared.limits.TheConstants.{BLOCK_LIMIT};
-    ghost use Rattle.s66_line.specs.Blocks.{instrs_of};
-    ghost use Rattle.s66_model.specs.Dependence.{all_needs};
-    ghost use Rattle.s66_model.specs.LegalOrder.{is_ready, ready, IsBeginning};
-    ghost use Rattle.s66_isa.specs.Members.{numbers_in};
-    ghost use Rattle.s66_time.specs.Opens.{opens};
+    ghost use Rattle.s66_line.specs.{instrs_of};
+    ghost use Rattle.s66_model.specs.{all_needs, is_ready, ready, IsBeginning};
+    ghost use Rattle.s66_time.specs.{opens};
 
     /// Those of a block, in time quadratic in its length.
     pub fn of(block: &Block) -> Openings

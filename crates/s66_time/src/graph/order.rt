@@ -1,8 +1,8 @@
 //! A legal order as a type (`Order`): a value of it can be made only of a permutation that keeps all dependences.
 
 ghost use Rattle.std.specs.Prelude.{◌≡◌, ◌≤◌, length};
-ghost use Rattle.s66_line.specs.Blocks.{instrs_of};
-ghost use Rattle.s66_isa.specs.declared.limits.TheConstants.{BLOCK_LIMIT};
+ghost use Rattle.s66_isa.specs.{BLOCK_LIMIT};
+ghost use Rattle.s66_line.specs.{instrs_of};
 
 use crate::graph::beginning::beginning_length;
 use arrayvec::ArrayVec;
@@ -41,14 +41,11 @@ pub struct NotLegal {
 }
 
 impl Order {
-    ghost use Rattle.std.specs.Prelude.{ℕ, ◌≡◌, ◌≤◌, ◌<◌, ◌↔◌, IsTrue, IfOk, IfErr, length, get_or};
-    ghost use Rattle.std.specs.Result.{is_ok};
-    ghost use Rattle.s66_isa.specs.Table.{instr_at, numbers};
-    ghost use Rattle.s66_line.specs.Blocks.{instrs_of};
-    ghost use Rattle.s66_isa.specs.declared.limits.TheConstants.{BLOCK_LIMIT};
-    ghost use Rattle.s66_model.specs.LegalOrder.{IsLegal};
-    ghost use Rattle.s66_model.specs.Meaning.{KeepsMeaning};
-    ghost use Rattle.s66_time.specs.Refusal.{IsRefusal};
+    ghost use Rattle.std.specs.Prelude.{ℕ, ◌≡◌, ◌≤◌, ◌<◌, ◌↔◌, IsTrue, IfOk, IfErr, length, get_or, is_ok};
+    ghost use Rattle.s66_isa.specs.{instr_at, numbers, BLOCK_LIMIT};
+    ghost use Rattle.s66_line.specs.{instrs_of};
+    ghost use Rattle.s66_model.specs.{IsLegal, KeepsMeaning};
+    ghost use Rattle.s66_time.specs.{IsRefusal};
 
     /// The source order, in time linear in its length.
     pub fn source(block: &Block) -> Order

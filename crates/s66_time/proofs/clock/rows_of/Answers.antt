@@ -1,5 +1,5 @@
 use Rattle.std.proofs.Common.{arith}
-use Rattle.s66_line.specs.Blocks.{instrs_of}
+use Rattle.s66_line.specs.{instrs_of}
 use Rattle.s66_time.proofs.RowsOfBlock.{digits-all}
 use Rattle.s66_time.proofs.clock.rows_of.Goals as goal
 

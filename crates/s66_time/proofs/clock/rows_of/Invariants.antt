@@ -1,7 +1,7 @@
 use Rattle.std.proofs.Common.{ℕ, ◌≡◌, ◌<◌, map, take, length, get_or}
-use Rattle.s66_isa.specs.Table.{idle_instr, row}
-use Rattle.s66_line.specs.Blocks.{instrs_of}
-use Rattle.s66_model.specs.Digits.{HasDigits}
+use Rattle.s66_isa.specs.{idle_instr, row}
+use Rattle.s66_model.specs.{HasDigits}
+use Rattle.s66_line.specs.{instrs_of}
 use Rattle.s66_time.proofs.clock.rows_of.Given as goal
 
 abbrev pub invariant-loop-position : goal.invariant-loop-position

@@ -1,6 +1,5 @@
 use Rattle.std.proofs.Common.{arith}
-use Rattle.s66_model.specs.Timing.{points_of}
-use Rattle.s66_model.specs.Dominance.{no_clamp}
+use Rattle.s66_model.specs.{points_of, no_clamp}
 use Rattle.s66_model.proofs.Dominating.{total-within}
 use Rattle.s66_time.proofs.MarksWithin.{marks-dominate}
 use Rattle.s66_time.proofs.dominance.dominates.Goals as goal

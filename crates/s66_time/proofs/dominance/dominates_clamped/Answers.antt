@@ -1,6 +1,5 @@
 use Rattle.std.proofs.Common.{arith, subst, ◌+◌, ◌≡◌, ◌↔◌, IsTrue}
-use Rattle.s66_model.specs.Timing.{points_of, next}
-use Rattle.s66_model.specs.Dominance.{Clamp, clamp_at, IsNoLater}
+use Rattle.s66_model.specs.{points_of, next, Clamp, clamp_at, IsNoLater}
 use Rattle.s66_time.proofs.MarksWithin.{marks-dominate, mark-early, same-clamp}
 use Rattle.s66_time.proofs.dominance.dominates_clamped.Goals as goal
 

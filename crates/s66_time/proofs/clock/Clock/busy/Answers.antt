@@ -1,8 +1,7 @@
 use Rattle.std.proofs.Common.{ap, arith, ◌∙◌}
-use Rattle.s66_isa.specs.Lists.{weigh}
-use Rattle.s66_model.specs.Timing.{next}
-use Rattle.s66_model.specs.Leaves.{rest_busy}
-use Rattle.s66_time.specs.Ticking.{points}
+use Rattle.s66_isa.specs.{weigh}
+use Rattle.s66_model.specs.{next, rest_busy}
+use Rattle.s66_time.specs.{points}
 use Rattle.s66_time.proofs.ClockPoints.{units-small, busy-words}
 use Rattle.s66_time.proofs.Clocks.{clock-words, clock-turn, clock-fits}
 use Rattle.s66_time.proofs.clock.Clock.busy.Goals as goal

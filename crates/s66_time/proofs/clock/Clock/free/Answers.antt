@@ -1,11 +1,9 @@
 use Rattle.std.proofs.Common.{ap, arith, ◌∙◌, ◌+◌, ◌≡◌}
-use Rattle.s66_isa.specs.Lists.{weigh}
-use Rattle.s66_isa.specs.Table.{copies_of}
-use Rattle.s66_line.specs.Blocks.{instrs_of}
-use Rattle.s66_model.specs.Timing.{Problem, points_of, next}
-use Rattle.s66_model.specs.Leaves.{rest_busy}
-use Rattle.s66_time.specs.Places.{first_unit}
-use Rattle.s66_time.specs.Ticking.{Ticking, points, numbers_of}
+use Rattle.s66_isa.specs.{weigh, copies_of}
+use Rattle.s66_model.specs.{Problem, points_of, next, rest_busy}
+use Rattle.s66_line.specs.{instrs_of}
+use Rattle.s66_time.specs.{first_unit, points, numbers_of}
+use Rattle.s66_time.specs.Ticking.{Ticking}
 use Rattle.s66_time.proofs.ClockPoints.{units-small, busy-words, only-unit, unit-greatest}
 use Rattle.s66_time.proofs.Clocks.{clock-words, clock-turn, clock-fits, clock-next}
 use Rattle.s66_time.proofs.clock.Clock.free.Goals as goal

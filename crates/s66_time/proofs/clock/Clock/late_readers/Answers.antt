@@ -1,6 +1,6 @@
 use Rattle.std.proofs.Common.{ap, ltb, ◌∙◌}
-use Rattle.s66_model.specs.Timing.{readers_wait}
-use Rattle.s66_time.specs.Ticking.{points}
+use Rattle.s66_model.specs.{readers_wait}
+use Rattle.s66_time.specs.{points}
 use Rattle.s66_time.proofs.Clocks.{clock-words}
 use Rattle.s66_time.proofs.clock.Clock.late_readers.Goals as goal
 

@@ -1,10 +1,8 @@
 use Rattle.std.proofs.Common.{ap, arith, cond, sym, ◌+◌, ◌∙◌, ◌≡◌}
-use Rattle.s66_isa.specs.Lists.{greatest}
-use Rattle.s66_isa.specs.Table.{memory_pair}
-use Rattle.s66_line.specs.Blocks.{instrs_of}
-use Rattle.s66_model.specs.Timing.{Point, points_of}
-use Rattle.s66_time.specs.ClockWords.{wait_of}
-use Rattle.s66_time.specs.Ticking.{points, numbers_of}
+use Rattle.s66_isa.specs.{greatest, memory_pair}
+use Rattle.s66_model.specs.{Point, points_of}
+use Rattle.s66_line.specs.{instrs_of}
+use Rattle.s66_time.specs.{wait_of, points, numbers_of}
 use Rattle.s66_time.proofs.ClockPoints.{memory-is}
 use Rattle.s66_time.proofs.Clocks.{clock-words, clock-turn}
 use Rattle.s66_time.proofs.MarkedWords.{waits-le}

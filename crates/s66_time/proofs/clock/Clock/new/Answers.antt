@@ -1,10 +1,10 @@
 use Rattle.std.proofs.Common.{arith, ap, ◌∙◌, List, length, min}
 use Rattle.std.proofs.lemmas.List.{length-map}
-use Rattle.s66_isa.specs.Lists.{tally}
-use Rattle.s66_isa.specs.Table.{Instr, Row, row, same_kind, kind_of}
-use Rattle.s66_line.specs.Blocks.{instrs_of}
-use Rattle.s66_model.specs.Timing.{Problem}
-use Rattle.s66_time.specs.LatestWords.{kept_in}
+use Rattle.s66_isa.specs.{tally, Row, row, same_kind, kind_of}
+use Rattle.s66_isa.specs.Table.{Instr}
+use Rattle.s66_model.specs.{Problem}
+use Rattle.s66_line.specs.{instrs_of}
+use Rattle.s66_time.specs.{kept_in}
 use Rattle.s66_time.proofs.Clocks.{clock-start}
 use Rattle.s66_time.proofs.KeptUnits.{rows-of-kind}
 use Rattle.s66_time.proofs.clock.Clock.new.Goals as goal

@@ -1,11 +1,12 @@
 use Rattle.std.proofs.Common.{arith, ap, ◌∙◌, ◌-◌, get_or, map, sym, subst, true, ◌≡◌, ℕ, List}
-use Rattle.s66_line.specs.Blocks.{instrs_of}
-use Rattle.s66_model.specs.LegalOrder.{is_ready}
+use Rattle.s66_isa.specs.{Profile, Row, row, instr_at, kind_of, copies_of}
+use Rattle.s66_isa.specs.Table.{Instr}
+use Rattle.s66_model.specs.{is_ready}
 use Rattle.s66_model.proofs.LegalOrders.{ready-parts}
-use Rattle.s66_isa.specs.declared.profile.Profile.{Profile}
-use Rattle.s66_isa.specs.Table.{Instr, Row, row, instr_at, kind_of, copies_of}
+use Rattle.s66_line.specs.{instrs_of}
+use Rattle.s66_time.specs.Ticking.{Ticking}
+use Rattle.s66_time.specs.{numbers_of}
 use Rattle.s66_time.proofs.RowsOfBlock.{row-at, row-kind}
-use Rattle.s66_time.specs.Ticking.{Ticking, numbers_of}
 use Rattle.s66_time.proofs.Clocks.{clock-words, clock-turn, room-left, pushed-clock}
 use Rattle.s66_time.proofs.clock.Clock.push.Goals as goal
 

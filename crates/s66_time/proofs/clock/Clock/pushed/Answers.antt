@@ -1,7 +1,7 @@
 use Rattle.std.proofs.Common.{ap, subst, arith, length, ◌∙◌}
-use Rattle.s66_isa.specs.Lists.{has}
-use Rattle.s66_line.specs.Blocks.{instrs_of}
-use Rattle.s66_model.specs.LegalOrder.{IsBeginning}
+use Rattle.s66_isa.specs.{has}
+use Rattle.s66_model.specs.{IsBeginning}
+use Rattle.s66_line.specs.{instrs_of}
 use Rattle.s66_time.specs.Ticking.{Ticking}
 use Rattle.s66_time.proofs.Clocks.{clock-words, has-points}
 use Rattle.s66_time.proofs.clock.Clock.pushed.Goals as goal

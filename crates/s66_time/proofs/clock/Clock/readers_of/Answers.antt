@@ -1,7 +1,7 @@
 use Rattle.std.proofs.Common.{ap, arith, ◌∙◌}
-use Rattle.s66_isa.specs.Table.{has_reg}
-use Rattle.s66_model.specs.Timing.{Point, readers_wait}
-use Rattle.s66_time.specs.Ticking.{points}
+use Rattle.s66_isa.specs.{has_reg}
+use Rattle.s66_model.specs.{Point, readers_wait}
+use Rattle.s66_time.specs.{points}
 use Rattle.s66_time.proofs.Clocks.{clock-words, clock-turn}
 use Rattle.s66_time.proofs.MarkedWords.{waits-le}
 use Rattle.s66_time.proofs.clock.Clock.readers_of.Goals as goal

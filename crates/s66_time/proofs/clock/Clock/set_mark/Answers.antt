@@ -1,11 +1,9 @@
 use Rattle.std.proofs.Common.{ℕ, ap, arith, sym, subst, ◌+◌, ◌%◌, ◌≡◌, ◌<◌, ◌∙◌, get_or}
-use Rattle.s66_isa.specs.declared.instr.Kind.{Kind}
-use Rattle.s66_line.specs.Blocks.{instrs_of}
-use Rattle.s66_model.specs.Timing.{Problem}
-use Rattle.s66_time.specs.KeptUnits.{kept_of, first_kept}
-use Rattle.s66_time.specs.LatestWords.{words_from, kept_in}
-use Rattle.s66_time.specs.Ticking.{Ticking, problem_of}
-use Rattle.s66_time.specs.Marks.{IsMarkOf}
+use Rattle.s66_isa.specs.{Kind}
+use Rattle.s66_model.specs.{Problem}
+use Rattle.s66_line.specs.{instrs_of}
+use Rattle.s66_time.specs.{kept_of, first_kept, words_from, kept_in, problem_of, IsMarkOf}
+use Rattle.s66_time.specs.Ticking.{Ticking}
 use Rattle.s66_time.proofs.Clocks.{clock-words, clock-turn}
 use Rattle.s66_time.proofs.KeptUnits.{count-same, first-same}
 use Rattle.s66_time.proofs.LatestWords.{own-at}

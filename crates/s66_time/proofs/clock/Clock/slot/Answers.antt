@@ -1,7 +1,7 @@
 use Rattle.std.proofs.Common.{ap, arith, ◌∙◌}
-use Rattle.s66_model.specs.Timing.{slot_of}
+use Rattle.s66_model.specs.{slot_of}
 use Rattle.s66_model.proofs.Growth.{fits_at-le}
-use Rattle.s66_time.specs.Ticking.{points}
+use Rattle.s66_time.specs.{points}
 use Rattle.s66_time.proofs.ClockPoints.{follows-small, slot-words}
 use Rattle.s66_time.proofs.Clocks.{clock-words, clock-turn, clock-next}
 use Rattle.s66_time.proofs.clock.Clock.slot.Goals as goal

@@ -1,11 +1,9 @@
 use Rattle.std.proofs.Common.{arith, subst, leb, ltb, ◌≡◌, get_or, ◌-◌}
-use Rattle.s66_isa.specs.Lists.{tally}
-use Rattle.s66_isa.specs.Table.{copies_of}
-use Rattle.s66_line.specs.Blocks.{instrs_of}
-use Rattle.s66_model.specs.Timing.{Problem, points_of, busy_at}
-use Rattle.s66_time.specs.ClockWords.{IsSoonest}
-use Rattle.s66_time.specs.Places.{first_unit}
-use Rattle.s66_time.specs.Ticking.{Ticking, points, numbers_of}
+use Rattle.s66_isa.specs.{tally, copies_of}
+use Rattle.s66_model.specs.{Problem, points_of, busy_at}
+use Rattle.s66_line.specs.{instrs_of}
+use Rattle.s66_time.specs.{IsSoonest, first_unit, points, numbers_of}
+use Rattle.s66_time.specs.Ticking.{Ticking}
 use Rattle.s66_time.proofs.ClockPoints.{unit-free, unit-greatest, units-small}
 use Rattle.s66_time.proofs.Clocks.{clock-words, clock-turn}
 use Rattle.s66_time.proofs.clock.Clock.soonest_free.Goals as goal

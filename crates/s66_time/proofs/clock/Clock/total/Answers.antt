@@ -1,6 +1,6 @@
 use Rattle.std.proofs.Common.{ap, arith, ◌∙◌}
-use Rattle.s66_model.specs.Timing.{total}
-use Rattle.s66_time.specs.Ticking.{points}
+use Rattle.s66_model.specs.{total}
+use Rattle.s66_time.specs.{points}
 use Rattle.s66_time.proofs.Clocks.{clock-words, clock-turn}
 use Rattle.s66_time.proofs.clock.Clock.total.Goals as goal
 

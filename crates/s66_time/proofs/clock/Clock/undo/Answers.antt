@@ -1,6 +1,6 @@
 use Rattle.std.proofs.Common.{arith, ap, ◌-◌, ◌+◌, ◌≡◌, length}
-use Rattle.s66_line.specs.Blocks.{instrs_of}
-use Rattle.s66_model.specs.Timing.{Problem}
+use Rattle.s66_model.specs.{Problem}
+use Rattle.s66_line.specs.{instrs_of}
 use Rattle.s66_time.specs.Ticking.{Ticking}
 use Rattle.s66_time.proofs.Clocks.{after_undo-clock, last-split, length-numbers}
 use Rattle.s66_time.proofs.clock.Clock.undo.Goals as goal

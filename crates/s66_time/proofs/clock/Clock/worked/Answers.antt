@@ -1,8 +1,8 @@
 use Rattle.std.proofs.Common.{ap, subst, arith, length, get_or, ◌∙◌}
-use Rattle.s66_line.specs.Blocks.{instrs_of}
-use Rattle.s66_model.specs.LegalOrder.{IsBeginning}
-use Rattle.s66_time.specs.ClockWords.{worked_of}
-use Rattle.s66_time.specs.Ticking.{Ticking, points}
+use Rattle.s66_model.specs.{IsBeginning}
+use Rattle.s66_line.specs.{instrs_of}
+use Rattle.s66_time.specs.{worked_of, points}
+use Rattle.s66_time.specs.Ticking.{Ticking}
 use Rattle.s66_time.proofs.Clocks.{clock-words}
 use Rattle.s66_time.proofs.clock.Clock.worked.Goals as goal
 

@@ -1,13 +1,13 @@
-use Rattle.std.proofs.Common.{◌∙◌, ◌||◌, eqb, sym, subst, ap, arith, take, get_or, inl, inr, refl}
-use Rattle.std.proofs.lemmas.List.{take_more, length-take}
-use Rattle.s66_isa.specs.Lists.{has}
-use Rattle.s66_line.specs.Blocks.{instrs_of}
-use Rattle.s66_model.specs.LegalOrder.{IsFront, IsBeginning}
+use Rattle.std.proofs.Common.{◌∙◌, ◌||◌, eqb, sym, subst, ap, arith, take, get_or, inl, inr, refl, length-take}
+use Rattle.std.proofs.lemmas.List.{take_more}
+use Rattle.s66_isa.specs.{has}
+use Rattle.s66_isa.proofs.Sets.{numbers_in-range}
+use Rattle.s66_model.specs.{IsFront, IsBeginning}
 use Rattle.s66_model.proofs.LegalOrders.{has-push}
 use Rattle.s66_model.proofs.Beginnings.{beginning-front}
-use Rattle.s66_isa.proofs.Sets.{numbers_in-range}
-use Rattle.s66_time.proofs.Readiness.{has-ready_same}
 use Rattle.s66_model.proofs.Remaining.{step-begins}
+use Rattle.s66_line.specs.{instrs_of}
+use Rattle.s66_time.proofs.Readiness.{has-ready_same}
 use Rattle.s66_time.proofs.LongestBeginning.{beginning-few, not_ready}
 use Rattle.s66_time.proofs.graph.beginning.beginning_length.Goals as goal
 

@@ -1,8 +1,7 @@
 use Rattle.std.proofs.Common.{ℕ, ◌≡◌, take}
-use Rattle.s66_isa.specs.Lists.{has}
-use Rattle.s66_model.specs.LegalOrder.{IsBeginning}
-use Rattle.s66_line.specs.Blocks.{instrs_of}
-use Rattle.s66_isa.specs.Members.{numbers_in}
+use Rattle.s66_isa.specs.{has, numbers_in}
+use Rattle.s66_model.specs.{IsBeginning}
+use Rattle.s66_line.specs.{instrs_of}
 use Rattle.s66_time.proofs.graph.beginning.beginning_length.Given as goal
 
 abbrev pub invariant-loop-position : goal.invariant-loop-position

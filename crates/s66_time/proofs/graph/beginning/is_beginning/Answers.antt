@@ -1,7 +1,6 @@
-use Rattle.std.proofs.Common.{length}
-use Rattle.std.proofs.lemmas.Bool.{eqb-true, eq-eqb}
-use Rattle.s66_line.specs.Blocks.{instrs_of}
+use Rattle.std.proofs.Common.{length, eqb-true, eq-eqb}
 use Rattle.s66_model.proofs.Beginnings.{beginning-front, front-beginning}
+use Rattle.s66_line.specs.{instrs_of}
 use Rattle.s66_time.proofs.LongestBeginning.{all-front, front-all}
 use Rattle.s66_time.proofs.graph.beginning.is_beginning.Goals as goal
 

@@ -1,7 +1,7 @@
 use Rattle.std.proofs.Common.{◌∙◌, sym, subst, arith}
-use Rattle.s66_line.specs.Blocks.{instrs_of}
-use Rattle.s66_isa.specs.Table.{instr_at}
-use Rattle.s66_time.specs.Effects.{AreEffects}
+use Rattle.s66_isa.specs.{instr_at}
+use Rattle.s66_line.specs.{instrs_of}
+use Rattle.s66_time.specs.{AreEffects}
 use Rattle.s66_time.proofs.Conflicts.{conflict-is}
 use Rattle.s66_time.proofs.Readiness.{depends-conflict}
 use Rattle.s66_time.proofs.graph.dependence.depends.Goals as goal

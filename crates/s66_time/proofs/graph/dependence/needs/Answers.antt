@@ -1,16 +1,13 @@
 use Rattle.std.proofs.Common.{ℕ, Bool, ◌≡◌, ◌∙◌, ◌+◌, ◌||◌, eqb, ap, sym, subst, arith, length}
-use Rattle.s66_isa.specs.Lists.{has}
-use Rattle.s66_isa.specs.Table.{instr_at}
-use Rattle.s66_model.specs.Dependence.{depends}
-use Rattle.s66_time.specs.declared.graph.effects.Effects.{Effects}
-use Rattle.s66_isa.specs.declared.set.Set.{Set}
-use Rattle.s66_isa.specs.Members.{numbers_in}
-use Rattle.s66_time.specs.Effects.{AreEffects}
-use Rattle.s66_time.proofs.Conflicts.{conflict-is}
+use Rattle.s66_isa.specs.{has, instr_at, Set, numbers_in}
 use Rattle.s66_isa.proofs.Sets.{numbers_in-filter, within-all, within-none, within-push, within-pass}
+use Rattle.s66_model.specs.{depends}
+use Rattle.s66_time.specs.declared.graph.effects.Effects.{Effects}
+use Rattle.s66_time.specs.{AreEffects}
+use Rattle.s66_time.proofs.Conflicts.{conflict-is}
 use Rattle.s66_time.proofs.Readiness.{depends-later, depends-conflict}
-use Rattle.s66_time.proofs.graph.dependence.needs.Goals as goal
 use Rattle.s66_time.proofs.graph.dependence.needs.Goals.{then-is_conflict, else-is_conflict}
+use Rattle.s66_time.proofs.graph.dependence.needs.Goals as goal
 
 pub loop-position-init : goal.loop-position-init
 loop-position-init c = λ block kept last m.

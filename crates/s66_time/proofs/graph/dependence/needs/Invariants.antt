@@ -1,10 +1,9 @@
 use Rattle.std.proofs.Common.{ℕ, ◌≡◌, ◌+◌, List, length}
-use Rattle.s66_isa.specs.Lists.{has}
-use Rattle.s66_isa.specs.Table.{Instr, instr_at}
-use Rattle.s66_model.specs.Dependence.{depends}
-use Rattle.s66_isa.specs.Members.{numbers_in}
-use Rattle.s66_time.specs.Effects.{AreEffects, AreEffectsOf}
+use Rattle.s66_isa.specs.{has, instr_at, numbers_in}
+use Rattle.s66_isa.specs.Table.{Instr}
 use Rattle.s66_isa.proofs.Sets.{within}
+use Rattle.s66_model.specs.{depends}
+use Rattle.s66_time.specs.{AreEffects, AreEffectsOf}
 use Rattle.s66_time.proofs.graph.dependence.needs.Given as goal
 
 abbrev pub invariant-loop-position : goal.invariant-loop-position

@@ -1,9 +1,8 @@
-use Rattle.std.proofs.Common.{ℕ, ◌∙◌, ◌&&◌, ◌==◌, not, ap, sym, refl}
-use Rattle.std.proofs.lemmas.Bool.{or_left, or_right, eq-eqb}
+use Rattle.std.proofs.Common.{ℕ, ◌∙◌, ◌&&◌, ◌==◌, not, ap, sym, refl, eq-eqb}
+use Rattle.std.proofs.lemmas.Bool.{or_left, or_right}
 use Rattle.std.proofs.Math.Bool.{and-true}
-use Rattle.s66_isa.specs.Lists.{has, some_of}
-use Rattle.s66_isa.specs.Members.{numbers_in}
-use Rattle.s66_time.specs.Opens.{needs_of}
+use Rattle.s66_isa.specs.{has, some_of, numbers_in}
+use Rattle.s66_time.specs.{needs_of}
 use Rattle.s66_time.proofs.Opened.{direct-next}
 use Rattle.s66_time.proofs.graph.openings.direct_needs.Goals as goal
 

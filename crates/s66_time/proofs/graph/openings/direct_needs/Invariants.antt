@@ -1,7 +1,6 @@
 use Rattle.std.proofs.Common.{ℕ, ◌≡◌, ◌≤◌, ◌&&◌, not, true, length}
-use Rattle.s66_isa.specs.Lists.{has, some_of}
-use Rattle.s66_isa.specs.Members.{numbers_in}
-use Rattle.s66_time.specs.Opens.{needs_of, is_direct}
+use Rattle.s66_isa.specs.{has, some_of, numbers_in}
+use Rattle.s66_time.specs.{needs_of, is_direct}
 use Rattle.s66_time.proofs.graph.openings.direct_needs.Given as goal
 
 abbrev pub invariant-loop-k : goal.invariant-loop-k

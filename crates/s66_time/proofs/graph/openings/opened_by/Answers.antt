@@ -1,6 +1,5 @@
 use Rattle.std.proofs.Common.{ℕ, ◌≡◌, ◌+◌, ◌-◌, ◌∙◌, Bool, length, get_or, ap, sym, arith}
-use Rattle.s66_isa.specs.Lists.{has}
-use Rattle.s66_isa.specs.Members.{numbers_in, no_set}
+use Rattle.s66_isa.specs.{has, numbers_in, no_set}
 use Rattle.s66_isa.proofs.Sets.{within, within-none, numbers_in-filter}
 use Rattle.s66_time.proofs.graph.openings.opened_by.Goals as goal
 

@@ -1,6 +1,5 @@
 use Rattle.std.proofs.Common.{ℕ, ◌≡◌, ◌+◌, ◌-◌, get_or}
-use Rattle.s66_isa.specs.Lists.{has}
-use Rattle.s66_isa.specs.Members.{numbers_in, no_set}
+use Rattle.s66_isa.specs.{has, numbers_in, no_set}
 use Rattle.s66_isa.proofs.Sets.{within}
 use Rattle.s66_time.proofs.graph.openings.opened_by.Given as goal
 

@@ -1,5 +1,5 @@
 use Rattle.std.proofs.Common.{rules, arith, IsTrue}
-use Rattle.s66_model.specs.Dominance.{Clamp}
+use Rattle.s66_model.specs.{Clamp}
 use Rattle.s66_time.proofs.MarksWithin.{marks-no_later, no_later-done, no_later-read, no_later-rest}
 use Rattle.s66_time.proofs.mark.Mark.is_within.Goals as goal
 

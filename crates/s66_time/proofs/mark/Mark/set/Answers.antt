@@ -1,8 +1,5 @@
-use Rattle.std.proofs.Common.{rules, arith, ◌<◌, ◌∙◌, subst, length, set}
-use Rattle.std.proofs.lemmas.List.{get_or-set_same, get_or-set_other, length-set}
-use Rattle.s66_time.specs.KeptUnits.{first_kept}
-use Rattle.s66_time.specs.LatestWords.{words_from, kept_in, AreLatest}
-use Rattle.s66_time.specs.Places.{first_unit}
+use Rattle.std.proofs.Common.{rules, arith, ◌<◌, ◌∙◌, subst, length, set, get_or-set_same, get_or-set_other, length-set}
+use Rattle.s66_time.specs.{first_kept, words_from, kept_in, AreLatest, first_unit}
 use Rattle.s66_time.proofs.MarkedWords.{early-done, early-read, early-refs, early-stores, early-units}
 use Rattle.s66_time.proofs.mark.Mark.set.Goals as goal
 

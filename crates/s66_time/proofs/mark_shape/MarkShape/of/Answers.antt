@@ -1,11 +1,9 @@
-use Rattle.std.proofs.Common.{◌+◌, ◌≡◌, ◌≤◌, ◌∙◌, ap, subst, sym, arith, get_or, set, length, take}
-use Rattle.std.proofs.lemmas.List.{length-set}
-use Rattle.s66_isa.specs.Lists.{weigh}
-use Rattle.s66_isa.specs.Table.{Row, kind_number, all_kinds}
-use Rattle.s66_time.specs.LatestWords.{kept_in}
+use Rattle.std.proofs.Common.{◌+◌, ◌≡◌, ◌≤◌, ◌∙◌, ap, subst, sym, arith, get_or, set, length, take, length-set}
+use Rattle.s66_isa.specs.{weigh, Row, kind_number, all_kinds}
+use Rattle.s66_time.specs.{kept_in}
 use Rattle.s66_time.proofs.KeptUnits.{IsCounted, sum-more, counted-more, counted-full}
-use Rattle.s66_time.proofs.mark_shape.MarkShape.of.Goals as goal
 use Rattle.s66_time.proofs.mark_shape.MarkShape.of.Goals.{then-from-at, else-from-at}
+use Rattle.s66_time.proofs.mark_shape.MarkShape.of.Goals as goal
 
 pub loop-row-preserved : goal.loop-row-preserved
 loop-row-preserved c =

@@ -1,9 +1,6 @@
 use Rattle.std.proofs.Common.{◌≡◌, ◌≤◌, length, min, take}
-use Rattle.s66_isa.specs.Lists.{tally, weigh}
-use Rattle.s66_isa.specs.Table.{Row, all_kinds, same_kind}
-use Rattle.s66_isa.specs.declared.instr.Kind.{Kind}
-use Rattle.s66_isa.specs.declared.instr.TheConstants.{KIND_COUNT}
-use Rattle.s66_time.specs.LatestWords.{kept_in}
+use Rattle.s66_isa.specs.{tally, weigh, Row, all_kinds, same_kind, Kind, KIND_COUNT}
+use Rattle.s66_time.specs.{kept_in}
 use Rattle.s66_time.proofs.mark_shape.MarkShape.of.Given as goal
 
 abbrev pub invariant-loop-row : goal.invariant-loop-row

@@ -1,7 +1,7 @@
 use Rattle.std.proofs.Common.{◌+◌, arith, subst, sym}
 use Rattle.s66_time.proofs.WordsAfter.{AreAfter, after-none, after-push, after-pass, after-all}
-use Rattle.s66_time.proofs.registers.RegisterWords.after.Goals as goal
 use Rattle.s66_time.proofs.registers.RegisterWords.after.Goals.{then-time-self, else-time-self}
+use Rattle.s66_time.proofs.registers.RegisterWords.after.Goals as goal
 
 pub loop-index-init : goal.loop-index-init
 loop-index-init c = after-none c.args.self.now.words c.args.time c.empty-after.result c.empty-after.ensures

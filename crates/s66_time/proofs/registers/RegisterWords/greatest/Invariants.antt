@@ -1,7 +1,7 @@
 use Rattle.std.proofs.Common.{ℕ, ◌≡◌, take}
 use Rattle.s66_isa.specs.Table.{Reg}
-use Rattle.s66_isa.specs.Lists.{greatest}
-use Rattle.s66_time.specs.ClockWords.{Tells}
+use Rattle.s66_isa.specs.{greatest}
+use Rattle.s66_time.specs.{Tells}
 use Rattle.s66_time.proofs.registers.RegisterWords.greatest.Given as goal
 
 abbrev pub invariant-loop-register : goal.invariant-loop-register

@@ -1,5 +1,4 @@
-use Rattle.s66_isa.specs.Registers.{index_of}
-use Rattle.s66_isa.specs.declared.reg.TheConstants.{REGISTER_COUNT}
+use Rattle.s66_isa.specs.{index_of, REGISTER_COUNT}
 use Rattle.s66_time.proofs.Back.{zeros}
 use Rattle.s66_time.proofs.registers.RegisterWords.new.Goals as goal
 

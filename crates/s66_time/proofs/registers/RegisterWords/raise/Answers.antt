@@ -1,8 +1,8 @@
 use Rattle.std.proofs.Common.{ap, ◌∙◌, ◌≡◌, max, set, get_or, refl, length, ◌<◌, subst, rules, take}
 use Rattle.std.proofs.lemmas.List.{take_more_set}
-use Rattle.s66_isa.specs.Registers.{index_of, word_of}
-use Rattle.s66_time.specs.Places.{put_back}
+use Rattle.s66_isa.specs.{index_of, word_of}
 use Rattle.s66_isa.proofs.RegisterBits.{raised-word}
+use Rattle.s66_time.specs.{put_back}
 use Rattle.s66_time.proofs.Back.{put_back-saved}
 use Rattle.s66_time.proofs.registers.RegisterWords.raise.Goals as goal
 

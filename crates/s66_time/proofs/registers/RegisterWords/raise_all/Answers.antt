@@ -1,6 +1,6 @@
 use Rattle.std.proofs.Common.{arith, ◌∙◌}
 use Rattle.s66_isa.specs.Table.{Reg}
-use Rattle.s66_isa.specs.Registers.{word_of}
+use Rattle.s66_isa.specs.{word_of}
 use Rattle.s66_time.proofs.Back.{raised-more}
 use Rattle.s66_time.proofs.registers.RegisterWords.raise_all.Goals as goal
 

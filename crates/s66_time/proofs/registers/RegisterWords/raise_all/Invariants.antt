@@ -1,7 +1,7 @@
 use Rattle.std.proofs.Common.{◌≡◌, ◌≤◌, max, take, if◌then◌else◌}
-use Rattle.s66_isa.specs.Table.{Reg, has_reg}
-use Rattle.s66_isa.specs.Registers.{word_of}
-use Rattle.s66_time.specs.Places.{put_back}
+use Rattle.s66_isa.specs.Table.{Reg}
+use Rattle.s66_isa.specs.{has_reg, word_of}
+use Rattle.s66_time.specs.{put_back}
 use Rattle.s66_time.proofs.registers.RegisterWords.raise_all.Given as goal
 
 abbrev pub invariant-loop-position : goal.invariant-loop-position

@@ -1,8 +1,8 @@
-use Rattle.std.proofs.Common.{ap, ◌+◌, ◌≡◌, ◌∙◌, ◌++◌, [], ◌∷◌, length, take, set, List}
-use Rattle.std.proofs.lemmas.List.{take_more_set, length-set}
+use Rattle.std.proofs.Common.{ap, ◌+◌, ◌≡◌, ◌∙◌, ◌++◌, [], ◌∷◌, length, take, set, List, length-set}
+use Rattle.std.proofs.lemmas.List.{take_more_set}
 use Rattle.arrayvec.specs.ArrayVec.{with_items}
 use Rattle.arrayvec.proofs.ArrayVecLemmas.{items-with_items}
-use Rattle.s66_time.specs.declared.step.Step.{Step}
+use Rattle.s66_time.specs.{Step}
 use Rattle.s66_time.proofs.steps.Steps.push.Goals as goal
 
 pub returns-clause-step : goal.returns-clause-step

@@ -1,5 +1,5 @@
 use Rattle.std.proofs.Common.{ap, sym, ◌∙◌, get_or}
-use Rattle.s66_isa.specs.Table.{instr_at, row}
+use Rattle.s66_isa.specs.{instr_at, row}
 use Rattle.s66_time.specs.TimedOrder.{TimedOrder}
 use Rattle.s66_time.proofs.Positions.{row-at}
 use Rattle.s66_time.proofs.timed.Timed.instr.Goals as goal

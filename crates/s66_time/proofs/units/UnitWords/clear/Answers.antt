@@ -1,7 +1,6 @@
-use Rattle.std.proofs.Common.{◌≡◌, ◌+◌, get_or, set, subst, arith, inl, inr, refl, ◌∙◌}
-use Rattle.std.proofs.lemmas.List.{length-set}
+use Rattle.std.proofs.Common.{◌≡◌, ◌+◌, get_or, set, subst, arith, inl, inr, refl, ◌∙◌, length-set}
 use Rattle.s66_isa.proofs.Lists.{cases_le}
-use Rattle.s66_time.specs.Places.{first_unit}
+use Rattle.s66_time.specs.{first_unit}
 use Rattle.s66_time.proofs.Cleared.{zero-set, zero-stays}
 use Rattle.s66_time.proofs.units.UnitWords.clear.Goals as goal
 

@@ -1,5 +1,5 @@
 use Rattle.std.proofs.Common.{ℕ, ◌≡◌, ◌+◌, ◌<◌, get_or, length}
-use Rattle.s66_time.specs.Places.{first_unit}
+use Rattle.s66_time.specs.{first_unit}
 use Rattle.s66_time.proofs.units.UnitWords.clear.Given as goal
 
 -- the words so far are 0, and so is each that was

@@ -1,7 +1,7 @@
 use Rattle.std.proofs.Common.{◌≡◌, ◌+◌, ◌<◌, ◌∙◌, get_or, refl, subst, arith, inl, inr}
+use Rattle.s66_isa.specs.{copies_of, kind_number}
 use Rattle.s66_isa.proofs.Lists.{cases_le}
-use Rattle.s66_isa.specs.Table.{copies_of, kind_number}
-use Rattle.s66_time.specs.Places.{first_unit}
+use Rattle.s66_time.specs.{first_unit}
 use Rattle.s66_time.proofs.Cleared.{kind-at}
 use Rattle.s66_time.proofs.WorkOfKinds.{kinds-few}
 use Rattle.s66_time.proofs.units.UnitWords.clear_all.Goals as goal

@@ -1,7 +1,6 @@
 use Rattle.std.proofs.Common.{ℕ, ◌≡◌, ◌+◌, ◌<◌, get_or, length}
-use Rattle.s66_isa.specs.Table.{copies_of, kind_number}
-use Rattle.s66_isa.specs.declared.instr.Kind.{Kind}
-use Rattle.s66_time.specs.Places.{first_unit}
+use Rattle.s66_isa.specs.{copies_of, kind_number, Kind}
+use Rattle.s66_time.specs.{first_unit}
 use Rattle.s66_time.proofs.units.UnitWords.clear_all.Given as goal
 
 -- the words of the kinds so far are 0

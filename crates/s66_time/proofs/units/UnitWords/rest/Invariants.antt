@@ -1,6 +1,6 @@
 use Rattle.std.proofs.Common.{◌≡◌, ◌-◌, ◌*◌, ◌≤◌, take, drop}
-use Rattle.s66_isa.specs.Lists.{weigh}
-use Rattle.s66_time.specs.declared.limits.TheConstants.{TOTAL_LIMIT}
+use Rattle.s66_isa.specs.{weigh}
+use Rattle.s66_time.specs.{TOTAL_LIMIT}
 use Rattle.s66_time.proofs.units.UnitWords.rest.Given as goal
 
 abbrev pub invariant-loop-copy : goal.invariant-loop-copy

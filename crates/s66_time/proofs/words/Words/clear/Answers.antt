@@ -1,8 +1,6 @@
 use Rattle.std.proofs.Common.{ℕ, ap, ◌∙◌, arith}
 use Rattle.std.proofs.lemmas.List.{length-replicate}
-use Rattle.s66_isa.specs.Lists.{has}
-use Rattle.s66_isa.specs.Table.{kind_number}
-use Rattle.s66_isa.specs.declared.instr.TheConstants.{KIND_COUNT}
+use Rattle.s66_isa.specs.{has, kind_number, KIND_COUNT}
 use Rattle.s66_time.proofs.Back.{zeros}
 use Rattle.s66_time.proofs.Cleared.{none-busy}
 use Rattle.s66_time.proofs.words.Words.clear.Goals as goal

@@ -1,8 +1,6 @@
 use Rattle.std.proofs.Common.{arith, ap, ◌∙◌, ◌+◌, ◌-◌, max}
-use Rattle.s66_model.specs.Packing.{fits_at}
-use Rattle.s66_isa.specs.Lists.{greatest}
-use Rattle.s66_isa.specs.Table.{Write, Row}
-use Rattle.s66_model.specs.Timing.{done_of}
+use Rattle.s66_isa.specs.{greatest, Write, Row}
+use Rattle.s66_model.specs.{fits_at, done_of}
 use Rattle.s66_time.proofs.ClockPoints.{issue-words, slot-words, follows-small}
 use Rattle.s66_time.proofs.words.Words.issue.Goals as goal
 

@@ -1,10 +1,8 @@
 use Rattle.std.proofs.Common.{ap, ◌∙◌, ◌≡◌, length, ℕ}
 use Rattle.std.proofs.lemmas.List.{length-replicate}
-use Rattle.s66_isa.specs.Lists.{has}
-use Rattle.s66_isa.specs.Table.{kind_number}
-use Rattle.s66_isa.specs.declared.instr.TheConstants.{KIND_COUNT}
+use Rattle.s66_isa.specs.{has, kind_number, KIND_COUNT}
+use Rattle.s66_time.specs.{UNIT_LIMIT}
 use Rattle.s66_time.proofs.Back.{zeros}
-use Rattle.s66_time.specs.declared.limits.TheConstants.{UNIT_LIMIT}
 use Rattle.s66_time.proofs.ClockPoints.{zero-units}
 use Rattle.s66_time.proofs.words.Words.new.Goals as goal
 

@@ -1,4 +1,4 @@
-use Rattle.s66_time.specs.ClockWords.{point_of_tick}
+use Rattle.s66_time.specs.{point_of_tick}
 use Rattle.s66_time.proofs.ClockPoints.{pushed-words}
 use Rattle.s66_time.proofs.WorkOfKinds.{worked-few}
 use Rattle.s66_time.proofs.words.Words.push.Goals as goal

@@ -1,8 +1,7 @@
 use Rattle.std.proofs.Common.{ap, ◌∙◌, max}
-use Rattle.s66_isa.specs.Lists.{greatest}
-use Rattle.s66_isa.specs.Table.{Row}
-use Rattle.s66_time.specs.ClockWords.{wait_of}
-use Rattle.s66_model.specs.Timing.{done_of}
+use Rattle.s66_isa.specs.{greatest, Row}
+use Rattle.s66_model.specs.{done_of}
+use Rattle.s66_time.specs.{wait_of}
 use Rattle.s66_time.proofs.ClockPoints.{start-words}
 use Rattle.s66_time.proofs.words.Words.start.Goals as goal
 

@@ -1,8 +1,7 @@
 use Rattle.std.proofs.Common.{ap, ◌∙◌, ◌+◌, max, cond, ℕ, List, length, take, set, get_or, refl}
-use Rattle.s66_isa.specs.Table.{Reg, same_reg, has_reg, kind_number, Row}
-use Rattle.s66_isa.specs.Lists.{greatest}
-use Rattle.s66_model.specs.Timing.{ResultAt}
-use Rattle.s66_isa.specs.Registers.{word_of}
+use Rattle.s66_isa.specs.Table.{Reg}
+use Rattle.s66_isa.specs.{same_reg, has_reg, kind_number, Row, greatest, word_of}
+use Rattle.s66_model.specs.{ResultAt}
 use Rattle.s66_time.proofs.ClockPoints.{words-back}
 use Rattle.s66_time.proofs.words.Words.take.Goals as goal
 

@@ -1,10 +1,7 @@
 use Rattle.std.proofs.Common.{arith, ap, subst, ◌∙◌, ◌≤◌, ◌≡◌, List, map}
-use Rattle.s66_isa.specs.Lists.{greatest, Among}
-use Rattle.s66_isa.specs.Table.{Write, Row}
-use Rattle.s66_model.specs.Packing.{fits_at}
-use Rattle.s66_isa.specs.Rows.{IsInRange}
-use Rattle.s66_model.specs.Timing.{ResultAt, free_after, readers_wait, result_at, next_parcel}
+use Rattle.s66_isa.specs.{greatest, Among, Write, Row, IsInRange}
 use Rattle.s66_isa.proofs.Lists.{greatest-le}
+use Rattle.s66_model.specs.{fits_at, ResultAt, free_after, readers_wait, result_at, next_parcel}
 use Rattle.s66_model.proofs.Growth.{results-le, fits_at-le}
 use Rattle.s66_time.proofs.ClockPoints.{follows-small, small-turn, start-early, start-le3, point-by}
 use Rattle.s66_time.proofs.words.Words.tick_among.Goals as goal

@@ -1,12 +1,10 @@
 use Rattle.std.proofs.Common.{◌≡◌, ◌∙◌, ◌+◌, ◌++◌, ◌∷◌, [], List, sym, ap, subst, arith, map, length}
 use Rattle.std.proofs.lemmas.List.{map-append}
-use Rattle.s66_isa.specs.Lists.{rising}
-use Rattle.s66_isa.specs.Table.{instr_at}
-use Rattle.s66_model.specs.Dependence.{needs}
-use Rattle.s66_line.specs.Blocks.{instrs_of}
+use Rattle.s66_isa.specs.{rising, instr_at, numbers_in}
+use Rattle.s66_model.specs.{needs}
+use Rattle.s66_line.specs.{instrs_of}
 use Rattle.s66_time.specs.declared.graph.effects.Effects.{Effects}
-use Rattle.s66_isa.specs.Members.{numbers_in}
-use Rattle.s66_time.specs.Effects.{AreEffects, AreEffectsOf}
+use Rattle.s66_time.specs.{AreEffects, AreEffectsOf}
 use Rattle.s66_time.proofs.Conflicts.{effects-push}
 use Rattle.s66_time.proofs.OrderNumbers.{rising-more}
 use Rattle.s66_time.proofs.graph.dependence.Dependences.of.Goals as goal

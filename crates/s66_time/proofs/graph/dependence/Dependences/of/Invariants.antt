@@ -1,9 +1,8 @@
 use Rattle.std.proofs.Common.{◌≡◌, length, map}
-use Rattle.s66_isa.specs.Lists.{rising}
-use Rattle.s66_model.specs.Dependence.{needs}
-use Rattle.s66_line.specs.Blocks.{instrs_of}
-use Rattle.s66_isa.specs.Members.{numbers_in}
-use Rattle.s66_time.specs.Effects.{AreEffectsOf}
+use Rattle.s66_isa.specs.{rising, numbers_in}
+use Rattle.s66_model.specs.{needs}
+use Rattle.s66_line.specs.{instrs_of}
+use Rattle.s66_time.specs.{AreEffectsOf}
 use Rattle.s66_time.proofs.graph.dependence.Dependences.of.Given as goal
 
 abbrev pub invariant-loop-position : goal.invariant-loop-position

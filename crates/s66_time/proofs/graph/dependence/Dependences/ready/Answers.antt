@@ -1,16 +1,12 @@
-use Rattle.std.proofs.Common.{ℕ, ◌≡◌, ◌∙◌, ◌+◌, ◌==◌, ◌||◌, ◌&&◌, not, ◌↔◌, IsTrue, List, true, refl, subst, sym, ap, arith, length, map}
-use Rattle.std.proofs.lemmas.Bool.{and_parts, or_left, or_right, eq-eqb, not-true}
+use Rattle.std.proofs.Common.{ℕ, ◌≡◌, ◌∙◌, ◌+◌, ◌==◌, ◌||◌, ◌&&◌, not, ◌↔◌, IsTrue, List, true, refl, subst, sym, ap, arith, length, map, eq-eqb}
+use Rattle.std.proofs.lemmas.Bool.{and_parts, or_left, or_right, not-true}
 use Rattle.std.proofs.lemmas.List.{length-map}
 use Rattle.std.proofs.Math.Bool.{or-false}
-use Rattle.s66_isa.specs.Lists.{has, rising}
-use Rattle.s66_isa.specs.Table.{numbers}
+use Rattle.s66_isa.specs.{has, rising, numbers, Set, numbers_in}
 use Rattle.s66_isa.proofs.Lists.{among-rising, has-among}
-use Rattle.s66_model.specs.Dependence.{needs, all_needs}
-use Rattle.s66_model.specs.LegalOrder.{is_ready}
-use Rattle.s66_model.proofs.Beginnings.{length-rising}
-use Rattle.s66_isa.specs.declared.set.Set.{Set}
-use Rattle.s66_isa.specs.Members.{numbers_in}
 use Rattle.s66_isa.proofs.Sets.{within, within-same, rising-few, numbers_in-filter}
+use Rattle.s66_model.specs.{needs, all_needs, is_ready}
+use Rattle.s66_model.proofs.Beginnings.{length-rising}
 use Rattle.s66_time.proofs.Readiness.{is_free, is_free-ready, free-rest, found-free, and_with, or_with}
 use Rattle.s66_time.proofs.graph.dependence.Dependences.ready.Goals as goal
 

@@ -1,6 +1,5 @@
 use Rattle.std.proofs.Common.{ℕ, ◌≡◌, ◌≤◌, ◌+◌, ◌||◌, ◌&&◌, true, false, length}
-use Rattle.s66_isa.specs.Lists.{has}
-use Rattle.s66_isa.specs.Members.{numbers_in}
+use Rattle.s66_isa.specs.{has, numbers_in}
 use Rattle.s66_isa.proofs.Sets.{within}
 use Rattle.s66_time.proofs.Readiness.{is_free}
 use Rattle.s66_time.proofs.graph.dependence.Dependences.ready.Given as goal

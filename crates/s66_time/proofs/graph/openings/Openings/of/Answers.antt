@@ -2,11 +2,9 @@ use Rattle.std.proofs.Common.{ℕ, ◌≡◌, ◌+◌, ◌-◌, ◌≤◌, ◌<�
 use Rattle.std.proofs.lemmas.Bool.{cases_lt}
 use Rattle.std.proofs.lemmas.List.{map-append, get_or_append_left}
 use Rattle.std.proofs.Math.Seq.{get_or-append_seam}
-use Rattle.s66_isa.specs.Lists.{has, rising}
-use Rattle.s66_line.specs.Blocks.{instrs_of}
-use Rattle.s66_isa.specs.declared.set.Set.{Set}
-use Rattle.s66_isa.specs.Members.{numbers_in, no_set}
-use Rattle.s66_time.specs.Opens.{needs_of, is_direct, opens}
+use Rattle.s66_isa.specs.{has, rising, Set, numbers_in, no_set}
+use Rattle.s66_line.specs.{instrs_of}
+use Rattle.s66_time.specs.{needs_of, is_direct, opens}
 use Rattle.s66_time.proofs.OrderNumbers.{rising-more}
 use Rattle.s66_time.proofs.Opened.{count-needs, needs-range, opens-from}
 use Rattle.s66_time.proofs.graph.openings.Openings.of.Goals as goal

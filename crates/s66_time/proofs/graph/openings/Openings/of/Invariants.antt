@@ -1,7 +1,6 @@
 use Rattle.std.proofs.Common.{ℕ, ◌≡◌, ◌+◌, ◌<◌, length, map, get_or}
-use Rattle.s66_isa.specs.Lists.{has, rising}
-use Rattle.s66_isa.specs.Members.{numbers_in, no_set}
-use Rattle.s66_time.specs.Opens.{is_direct, opens}
+use Rattle.s66_isa.specs.{has, rising, numbers_in, no_set}
+use Rattle.s66_time.specs.{is_direct, opens}
 use Rattle.s66_time.proofs.graph.openings.Openings.of.Given as goal
 
 abbrev pub invariant-loop-position : goal.invariant-loop-position

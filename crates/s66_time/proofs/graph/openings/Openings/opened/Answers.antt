@@ -1,8 +1,7 @@
 use Rattle.std.proofs.Common.{ℕ, ◌-◌, ◌∙◌, List, [], length, get_or, sym, ap, arith}
 use Rattle.std.proofs.lemmas.List.{get_or-map}
-use Rattle.s66_isa.specs.declared.set.Set.{Set}
-use Rattle.s66_isa.specs.Members.{numbers_in, no_set}
-use Rattle.s66_time.specs.Opens.{all_opens}
+use Rattle.s66_isa.specs.{Set, numbers_in, no_set}
+use Rattle.s66_time.specs.{all_opens}
 use Rattle.s66_time.proofs.Opened.{opens-at, count-opens}
 use Rattle.s66_time.proofs.graph.openings.Openings.opened.Goals as goal
 

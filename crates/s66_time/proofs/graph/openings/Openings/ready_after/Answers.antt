@@ -1,9 +1,8 @@
-use Rattle.std.proofs.Common.{ℕ, Bool, ◌≡◌, ◌∙◌, ◌-◌, ◌||◌, ◌&&◌, ◌==◌, ◌↔◌, IsTrue, not, List, [], true, ap, sym, subst, refl, arith, length, get_or}
-use Rattle.std.proofs.lemmas.Bool.{or_left, or_right, eq-eqb}
+use Rattle.std.proofs.Common.{ℕ, Bool, ◌≡◌, ◌∙◌, ◌-◌, ◌||◌, ◌&&◌, ◌==◌, ◌↔◌, IsTrue, not, List, [], true, ap, sym, subst, refl, arith, length, get_or, eq-eqb}
+use Rattle.std.proofs.lemmas.Bool.{or_left, or_right}
 use Rattle.std.proofs.Math.Bool.{or-false}
-use Rattle.s66_isa.specs.Lists.{has, every}
-use Rattle.s66_isa.specs.Members.{numbers_in}
-use Rattle.s66_time.specs.Opens.{needs_of, opens}
+use Rattle.s66_isa.specs.{has, every, numbers_in}
+use Rattle.s66_time.specs.{needs_of, opens}
 use Rattle.s66_time.proofs.Readiness.{every-tested, found-next, and_with, or_with}
 use Rattle.s66_time.proofs.Opened.{count-needs, opens-range, after-is, ready-set}
 use Rattle.s66_time.proofs.graph.openings.Openings.ready_after.Goals as goal

@@ -1,7 +1,6 @@
 use Rattle.std.proofs.Common.{ℕ, ◌≡◌, ◌≤◌, ◌||◌, ◌&&◌, not, true, length}
-use Rattle.s66_isa.specs.Lists.{has, every}
-use Rattle.s66_isa.specs.Members.{numbers_in}
-use Rattle.s66_time.specs.Opens.{needs_of, opens}
+use Rattle.s66_isa.specs.{has, every, numbers_in}
+use Rattle.s66_time.specs.{needs_of, opens}
 use Rattle.s66_time.proofs.graph.openings.Openings.ready_after.Given as goal
 
 abbrev pub invariant-loop-m : goal.invariant-loop-m

@@ -1,8 +1,7 @@
 use Rattle.std.proofs.Common.{ℕ, ◌≡◌, ◌∙◌, ◌||◌, ◌&&◌, ◌==◌, not, List, ap, arith, length}
-use Rattle.s66_isa.specs.Lists.{has}
-use Rattle.s66_model.specs.Dependence.{all_needs}
-use Rattle.s66_isa.specs.Members.{numbers_in}
-use Rattle.s66_time.specs.Opens.{opens}
+use Rattle.s66_isa.specs.{has, numbers_in}
+use Rattle.s66_model.specs.{all_needs}
+use Rattle.s66_time.specs.{opens}
 use Rattle.s66_time.proofs.Opened.{count-needs, before-is, ready-set}
 use Rattle.s66_time.proofs.graph.openings.Openings.ready_before.Goals as goal
 

@@ -1,5 +1,5 @@
 use Rattle.std.proofs.Common.{◌≡◌, take}
-use Rattle.s66_line.specs.Blocks.{instrs_of}
+use Rattle.s66_line.specs.{instrs_of}
 use Rattle.s66_time.proofs.graph.order.Order.is_of.Given as goal
 
 abbrev pub invariant-loop-position : goal.invariant-loop-position

@@ -1,8 +1,8 @@
 use Rattle.std.proofs.Common.{arith, true≢false, sym}
-use Rattle.s66_line.specs.Blocks.{instrs_of}
+use Rattle.s66_line.specs.{instrs_of}
 use Rattle.s66_time.proofs.LongestBeginning.{all-front, front-legal, legal-all, legal-kept}
-use Rattle.s66_time.proofs.graph.order.Order.new.Goals as goal
 use Rattle.s66_time.proofs.graph.order.Order.new.Goals.{then-front-numbers-via-then-front-numbers, then-front-numbers-via-else-front-numbers+then-front-count}
+use Rattle.s66_time.proofs.graph.order.Order.new.Goals as goal
 
 pub returns-then-front-numbers-clause-taken : goal.returns-then-front-numbers-clause-taken
 returns-then-front-numbers-clause-taken c = (

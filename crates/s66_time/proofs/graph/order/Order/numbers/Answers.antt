@@ -1,5 +1,5 @@
 use Rattle.std.proofs.Common.{ℕ, ◌≡◌, ◌≤◌, ◌<◌, ap, length, get_or, subst, sym, List}
-use Rattle.s66_isa.specs.declared.instr.Instr.{Instr}
+use Rattle.s66_isa.specs.{Instr}
 use Rattle.s66_time.specs.Ordered.{Ordered}
 use Rattle.s66_time.proofs.OrderNumbers.{legal-range}
 use Rattle.s66_time.proofs.graph.order.Order.numbers.Goals as goal

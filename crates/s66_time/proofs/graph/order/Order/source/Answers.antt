@@ -1,13 +1,12 @@
 use Rattle.std.proofs.Common.{◌≡◌, ◌+◌, ◌++◌, ◌∷◌, [], sym, ◌∙◌, ap, arith, subst, length}
-use Rattle.s66_isa.specs.Lists.{rising}
-use Rattle.s66_isa.specs.Table.{numbers}
-use Rattle.s66_line.specs.Blocks.{instrs_of}
-use Rattle.s66_model.specs.LegalOrder.{IsLegal}
+use Rattle.s66_isa.specs.{rising, numbers}
+use Rattle.s66_model.specs.{IsLegal}
 use Rattle.s66_model.proofs.Beginnings.{source-legal}
 use Rattle.s66_model.proofs.MeaningOfOrders.{legal-meaning}
+use Rattle.s66_line.specs.{instrs_of}
 use Rattle.s66_time.proofs.OrderNumbers.{rising-more}
-use Rattle.s66_time.proofs.graph.order.Order.source.Goals as goal
 use Rattle.s66_time.proofs.graph.order.Order.source.Goals.{After-instrs_of}
+use Rattle.s66_time.proofs.graph.order.Order.source.Goals as goal
 
 pub loop-position-preserved : goal.loop-position-preserved
 loop-position-preserved c =

@@ -1,5 +1,5 @@
 use Rattle.std.proofs.Common.{◌≡◌, length}
-use Rattle.s66_isa.specs.Lists.{rising}
+use Rattle.s66_isa.specs.{rising}
 use Rattle.s66_time.proofs.graph.order.Order.source.Given as goal
 
 abbrev pub invariant-loop-position : goal.invariant-loop-position
