@@ -1,8 +1,7 @@
 -- The cost of a number is at the place below it, for the chain that is printed.
 use Rattle.std.proofs.Common.{ℕ, ◌+◌, ◌-◌, ◌≤◌, ◌≡◌, List, length, get_or, subst, arith}
-use Rattle.s66_model.specs.Timing.{Problem, row_at}
-use Rattle.s66_bound.specs.declared.cost.Cost.{Cost}
-use Rattle.s66_bound.specs.InstructionCosts.{IsCostOf, AreCosts}
+use Rattle.s66_model.specs.{Problem, row_at}
+use Rattle.s66_bound.specs.{Cost, IsCostOf, AreCosts}
 use Rattle.s66_bound.proofs.CostTables.{cost-at}
 
 pub cost-of : (b : Problem) (es : List Cost) (n : ℕ) (e : Cost) → AreCosts b es → 1 ≤ n → n ≤ length es → e ≡ get_or es (n - 1) e → IsCostOf (row_at b n) e

@@ -3,15 +3,10 @@ use Rattle.std.proofs.Common.{ℕ, ◌+◌, ◌≤◌, ◌<◌, ◌≡◌, Bool,
 use Rattle.std.proofs.lemmas.Bool.{cases_lt}
 use Rattle.std.proofs.lemmas.List.{get_or_append_left}
 use Rattle.std.proofs.Math.Seq.{get_or-append_seam}
-use Rattle.s66_isa.specs.declared.limits.TheConstants.{BLOCK_LIMIT}
-use Rattle.s66_isa.specs.Lists.{has}
-use Rattle.s66_model.specs.Timing.{Problem, row_at}
-use Rattle.s66_isa.specs.declared.set.Set.{Set}
-use Rattle.s66_isa.specs.Members.{numbers_in}
+use Rattle.s66_isa.specs.{BLOCK_LIMIT, has, Set, numbers_in}
 use Rattle.s66_isa.proofs.Sets.{within, numbers_in-filter}
-use Rattle.s66_bound.specs.declared.cost.Cost.{Cost}
-use Rattle.s66_bound.specs.InstructionCosts.{IsCostOf, AreCosts}
-use Rattle.s66_bound.specs.TableWords.{AreThose}
+use Rattle.s66_model.specs.{Problem, row_at}
+use Rattle.s66_bound.specs.{Cost, IsCostOf, AreCosts, AreThose}
 
 -- with the cost of the next number
 pub costs-push : (b : Problem) (es : List Cost) (e : Cost) → ((i : ℕ) (d : Cost) → i < length es → IsCostOf (row_at b (i + 1)) (get_or es i d)) → IsCostOf (row_at b (length es + 1)) e →

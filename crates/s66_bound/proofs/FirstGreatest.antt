@@ -1,18 +1,15 @@
 -- The floor by its value: of the greatest leaves the first, without a look at those that come later.
 use Rattle.std.proofs.Common.{ℕ, ◌≡◌, ◌≢◌, ◌≤◌, ◌<◌, List, [], ◌∷◌, length, get_or, refl, sym, ap, arith, inl, inr, ◌∙◌}
 use Rattle.std.proofs.lemmas.Bool.{cases_lt}
-use Rattle.s66_isa.specs.declared.instr.Kind.{Kind}
-use Rattle.s66_isa.specs.Table.{all_kinds}
+use Rattle.s66_isa.specs.{Kind, all_kinds}
 use Rattle.s66_isa.proofs.Lists.{le-greatest}
-use Rattle.s66_line.proofs.OperationLaw.{among-at}
-use Rattle.s66_model.specs.Timing.{Problem}
-use Rattle.s66_model.specs.LegalOrder.{IsBeginning, IsIncomplete}
-use Rattle.s66_model.specs.Leaves.{value, chain, load, longest_chain, first_greatest, floor, floor_value}
+use Rattle.s66_model.specs.{Problem, IsBeginning, IsIncomplete, value, chain, load, longest_chain, first_greatest, floor, floor_value}
 use Rattle.s66_model.specs.Leaves as leaves
 use Rattle.s66_model.proofs.LongestChain.{longest-is_chain}
 use Rattle.s66_model.proofs.Floors.{some-remains}
 use Rattle.s66_model.proofs.FloorWalk.{leaves_from, first-replaced, first-kept, floor-first, floor-sorts}
 use Rattle.s66_model.proofs.FloorParts.{value-first}
+use Rattle.s66_line.proofs.OperationLaw.{among-at}
 
 -- what is no less than the first greatest is it
 first-stays : (f : leaves.Leaf → ℕ) (leaf : leaves.Leaf) (others : List leaves.Leaf) → f (first_greatest f leaf others) ≤ f leaf → first_greatest f leaf others ≡ leaf

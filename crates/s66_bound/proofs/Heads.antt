@@ -2,12 +2,9 @@
 use Rattle.std.proofs.Common.{ℕ, ◌+◌, ◌≤◌, ◌<◌, ◌≡◌, Bool, true, false, cond, max, List, length, get_or, drop, arith, eqb}
 use Rattle.std.proofs.lemmas.Bool.{cond-true, cond-false}
 use Rattle.std.proofs.lemmas.List.{at_drop_more}
-use Rattle.s66_isa.specs.declared.reg.Reg.{Reg}
-use Rattle.s66_isa.specs.Lists.{greatest}
+use Rattle.s66_isa.specs.{Reg, greatest}
 use Rattle.s66_isa.proofs.Lists.{greatest-le-greatest}
-use Rattle.s66_model.specs.Timing.{Problem, row_at, points_of, next, done_of}
-use Rattle.s66_model.specs.Leaves.{uses, head, chain}
-use Rattle.s66_model.specs.Tails.{longest_tail, HasLate}
+use Rattle.s66_model.specs.{Problem, row_at, points_of, next, done_of, uses, head, chain, longest_tail, HasLate}
 use Rattle.s66_model.proofs.HeadByRegisters.{done_for, head-by-registers}
 
 pub greatest-drop : {X : Type 0} (f : X → ℕ) (xs : List X) (i : ℕ) (d : X) → i < length xs → greatest f (drop i xs) ≡ max (f (get_or xs i d)) (greatest f (drop (i + 1) xs))

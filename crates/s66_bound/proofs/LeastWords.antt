@@ -1,11 +1,9 @@
 -- The numbers of the least spare, as a set that is made number by number.
 use Rattle.std.proofs.Common.{ℕ, ◌+◌, ◌-◌, ◌≤◌, ◌<◌, ◌≡◌, true, ◌&&◌, ◌||◌, eqb, List, [], ◌∷◌, length, get_or, refl, sym, ap, arith, inl, inr, ◌∙◌, eq-eqb, ne_eqb}
 use Rattle.std.proofs.lemmas.Bool.{cases_eq, and_parts, or_left}
-use Rattle.s66_isa.specs.Lists.{least, has, Among}
+use Rattle.s66_isa.specs.{least, has, Among, Set, numbers_in}
 use Rattle.s66_isa.proofs.Lists.{least-le, has-among}
-use Rattle.s66_isa.specs.declared.set.Set.{Set}
-use Rattle.s66_isa.specs.Members.{numbers_in}
-use Rattle.s66_bound.specs.LeastWords.{AreEnds}
+use Rattle.s66_bound.specs.{AreEnds}
 
 abbrev pub word : List ℕ → ℕ → ℕ
 word words n = get_or words (n - 1) 0

@@ -1,11 +1,9 @@
 -- The longest walks from a number on, as far as the later numbers were looked at.
-use Rattle.std.proofs.Common.{ℕ, ◌+◌, ◌≤◌, ◌≡◌, max, [], ◌∷◌, ap, arith, ltb}
-use Rattle.std.proofs.lemmas.Bool.{and_left, le-ltb, cond-false}
-use Rattle.s66_isa.specs.Lists.{greatest, rising}
+use Rattle.std.proofs.Common.{ℕ, ◌+◌, ◌≤◌, ◌≡◌, max, [], ◌∷◌, ap, arith, ltb, le-ltb}
+use Rattle.std.proofs.lemmas.Bool.{and_left, cond-false}
+use Rattle.s66_isa.specs.{greatest, rising}
 use Rattle.s66_isa.proofs.Lists.{greatest-append, greatest-le, among-rising}
-use Rattle.s66_model.specs.Timing.{Problem, row_at}
-use Rattle.s66_model.specs.Leaves.{link, is_linked}
-use Rattle.s66_model.specs.Tails.{longest_tail, walk_to}
+use Rattle.s66_model.specs.{Problem, row_at, link, is_linked, longest_tail, walk_to}
 use Rattle.s66_time.proofs.OrderNumbers.{rising-more}
 
 -- none goes on with a number that isn't later

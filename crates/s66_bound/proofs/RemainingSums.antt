@@ -1,22 +1,17 @@
 -- Work, parcels and chains of what remains, by sets of its numbers.
-use Rattle.std.proofs.Common.{ℕ, ◌+◌, ◌-◌, ◌≤◌, ◌<◌, ◌≡◌, ◌==◌, ◌&&◌, Bool, true, true≢false, not, leb, cond, List, [], ◌∷◌, length, get_or, refl, sym, subst, ap, arith, inl, inr, ◌∙◌}
-use Rattle.std.proofs.lemmas.Bool.{cases_Bool, and_parts, and_from, le-leb, cond-true, cond-false, cond_both, eqb-true, eqb-false}
-use Rattle.std.specs.List.{filter}
-use Rattle.s66_isa.specs.declared.instr.Kind.{Kind}
-use Rattle.s66_isa.specs.Lists.{least, weigh, has, Among}
+use Rattle.std.proofs.Common.{ℕ, ◌+◌, ◌-◌, ◌≤◌, ◌<◌, ◌≡◌, ◌==◌, ◌&&◌, Bool, true, true≢false, not, leb, cond, List, [], ◌∷◌, length, get_or, refl, sym, subst, ap, arith, inl, inr, ◌∙◌, le-leb}
+use Rattle.std.proofs.Common.{eqb-true, filter}
+use Rattle.std.proofs.lemmas.Bool.{cases_Bool, and_parts, and_from, cond-true, cond-false, cond_both, eqb-false}
+use Rattle.s66_isa.specs.{Kind, least, weigh, has, Among, Set, numbers_in}
 use Rattle.s66_isa.specs.Table.{Reg}
 use Rattle.s66_isa.proofs.Lists.{le-greatest, greatest-le, least-same}
-use Rattle.s66_model.specs.Timing.{Problem, row_at, points_of, next, done_of, copies}
-use Rattle.s66_model.specs.LegalOrder.{remaining, sum_remaining}
-use Rattle.s66_model.specs.Leaves.{uses, work_of, rest_busy, over, load, parcels}
-use Rattle.s66_model.specs.Tails.{longest_tail, tail_remaining, chain_by, spare, HasWords}
+use Rattle.s66_model.specs.{Problem, row_at, points_of, next, done_of, copies, remaining, sum_remaining, uses, work_of, rest_busy, over, load, parcels, longest_tail, tail_remaining, chain_by, spare}
+use Rattle.s66_model.specs.{HasWords}
 use Rattle.s66_model.proofs.FloorParts.{sum_remaining-weigh, words-remaining, parcels-static}
 use Rattle.s66_model.proofs.PointTimes.{good-at}
 use Rattle.s66_model.proofs.Remaining.{remaining-parts, remaining-among, among-remaining}
-use Rattle.s66_isa.specs.declared.set.Set.{Set}
-use Rattle.s66_isa.specs.Members.{numbers_in}
-use Rattle.s66_time.specs.Ranks.{IsGreatestWord}
-use Rattle.s66_bound.specs.Ranks.{rank, AreRanks}
+use Rattle.s66_time.specs.{IsGreatestWord}
+use Rattle.s66_bound.specs.{rank, AreRanks}
 
 among-left : (b : Problem) (prefix : List ℕ) (n : ℕ) → 1 ≤ n → n ≤ length b.block → not (has n prefix) ≡ true → Among n (remaining b.block prefix)
 among-left b prefix n low high stays =

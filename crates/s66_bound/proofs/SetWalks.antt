@@ -1,6 +1,6 @@
 -- What a walk over the numbers of a set has found so far of the least word, and what is left.
 use Rattle.std.proofs.Common.{ℕ, ◌≤◌, ◌<◌, ◌≡◌, min, List, [], ◌∷◌, length, refl, sym, ap, arith, ◌∙◌}
-use Rattle.s66_isa.specs.Lists.{least}
+use Rattle.s66_isa.specs.{least}
 
 -- the least of low and of f of these
 abbrev pub least_with : ℕ → (ℕ → ℕ) → List ℕ → ℕ

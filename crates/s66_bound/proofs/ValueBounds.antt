@@ -1,14 +1,12 @@
 -- Chains by late registers, the greatest of all leaves, and that each is a lower bound of all orders that go on from a beginning.
-use Rattle.std.proofs.Common.{ℕ, ◌+◌, ◌-◌, ◌≤◌, ◌<◌, ◌≡◌, max, cond, ltb, List, [], ◌∷◌, ◌++◌, length, length-append, true, true≢false, refl, sym, arith, inl, inr, ◌∙◌}
-use Rattle.std.proofs.lemmas.Bool.{cases_lt, cond_both, lt-ltb, eq-eqb}
-use Rattle.s66_isa.specs.Lists.{greatest, Among}
-use Rattle.s66_isa.specs.Table.{Reg, all_kinds, has_reg}
+use Rattle.std.proofs.Common.{ℕ, ◌+◌, ◌-◌, ◌≤◌, ◌<◌, ◌≡◌, max, cond, ltb, List, [], ◌∷◌, ◌++◌, length, length-append, true, true≢false, refl, sym, arith, inl, inr, ◌∙◌, lt-ltb, eq-eqb}
+use Rattle.std.proofs.lemmas.Bool.{cases_lt, cond_both}
+use Rattle.s66_isa.specs.{greatest, Among, all_kinds, has_reg}
+use Rattle.s66_isa.specs.Table.{Reg}
 use Rattle.s66_isa.proofs.Lists.{le-greatest, greatest-le}
 use Rattle.s66_isa.proofs.SameRegister.{has_reg-le}
-use Rattle.s66_model.specs.Timing.{Problem, row_at, points_of, next, done_of, total_of}
-use Rattle.s66_model.specs.LegalOrder.{IsLegal, IsBeginning, IsIncomplete, IsComplete, is_remaining, remaining}
-use Rattle.s66_model.specs.Leaves.{Leaf, value, uses, chain, load, parcels, MayStand, floor, floor_value}
-use Rattle.s66_model.specs.Tails.{longest_tail, tail_remaining, chain_by, HasWritten}
+use Rattle.s66_model.specs.{Problem, row_at, points_of, next, done_of, total_of, IsLegal, IsBeginning, IsIncomplete, IsComplete, is_remaining, remaining, Leaf, value, uses, chain, load, parcels}
+use Rattle.s66_model.specs.{MayStand, floor, floor_value, longest_tail, tail_remaining, chain_by, HasWritten}
 use Rattle.s66_model.proofs.Beginnings.{beginning-front}
 use Rattle.s66_model.proofs.ChainParts.{by-le, chain-parts}
 use Rattle.s66_model.proofs.Longest.{chain-static}
@@ -18,7 +16,7 @@ use Rattle.s66_model.proofs.FloorWalk.{floor-sorts}
 use Rattle.s66_model.proofs.Floors.{some-remains, floor-stands}
 use Rattle.s66_model.proofs.Remaining.{legal-parts, order-has, remaining-among, remaining-parts}
 use Rattle.s66_model.proofs.Trees.{leaf-sound}
-use Rattle.s66_bound.specs.TableWords.{AreRegisters}
+use Rattle.s66_bound.specs.{AreRegisters}
 
 pub chain-covered : (b : Problem) (prefix : List ℕ) (xs : List Reg) → IsBeginning b.block prefix → IsIncomplete b.block prefix → HasWritten b xs →
     chain b prefix ≡ max (next (points_of b prefix) + tail_remaining b prefix) (greatest (chain_by b prefix) xs)

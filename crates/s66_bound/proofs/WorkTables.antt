@@ -1,19 +1,14 @@
 -- The work of each kind, of the whole block and of what remains.
-use Rattle.std.proofs.Common.{ℕ, ◌+◌, ◌*◌, ◌≤◌, ◌≡◌, ◌≢◌, true≢false, List, [], ◌∷◌, length, set, get_or, sym, ap, arith, inl, inr, ◌∙◌, eqb-true, eq-eqb}
+use Rattle.std.proofs.Common.{ℕ, ◌+◌, ◌*◌, ◌≤◌, ◌≡◌, ◌≢◌, true≢false, List, [], ◌∷◌, length, set, get_or, sym, ap, arith, inl, inr, ◌∙◌, eqb-true, eq-eqb, get_or-set_same, get_or-set_other}
 use Rattle.std.proofs.lemmas.Bool.{cases_Bool, cond_both, cond-true, cond-false}
-use Rattle.std.proofs.lemmas.List.{get_or-set_same, get_or-set_other}
-use Rattle.s66_isa.specs.Table.{kind_number, same_kind}
-use Rattle.s66_isa.specs.declared.instr.Kind.{Kind}
-use Rattle.s66_isa.specs.Lists.{weigh, rising}
+use Rattle.s66_isa.specs.{kind_number, same_kind, Kind, weigh, rising}
 use Rattle.s66_isa.proofs.Lists.{weigh-append}
-use Rattle.s66_model.specs.Timing.{Problem, Point, row_at, point_of, points_of, points_after}
-use Rattle.s66_model.specs.LegalOrder.{IsBeginning, sum_remaining}
-use Rattle.s66_model.specs.Leaves.{work_of}
+use Rattle.s66_model.specs.{Problem, Point, row_at, point_of, points_of, points_after, IsBeginning, sum_remaining, work_of}
 use Rattle.s66_model.proofs.LegalOrders.{sum_remaining-run}
 use Rattle.s66_model.proofs.PointTimes.{good-at, point_of-row}
 use Rattle.s66_time.proofs.OrderNumbers.{rising-more}
 use Rattle.s66_time.proofs.WorkOfKinds.{kinds-few}
-use Rattle.s66_bound.specs.TableWords.{HasWorks}
+use Rattle.s66_bound.specs.{HasWorks}
 
 abbrev pub work_at : Problem → Kind → ℕ → ℕ
 work_at b kind n = work_of kind (row_at b n)

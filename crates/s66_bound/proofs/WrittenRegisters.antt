@@ -1,15 +1,12 @@
 -- Which registers the instructions of a block write, by their costs.
 use Rattle.std.proofs.Common.{ℕ, zero, suc, ◌+◌, ◌-◌, ◌≤◌, ◌<◌, ◌≡◌, Bool, true, false, true≢false, List, [], ◌∷◌, ◌++◌, length, get_or, sym, subst, ap, arith, inl, inr, ◌∙◌}
 use Rattle.std.proofs.lemmas.Bool.{or_left, or_right, cases_eq, cases_lt}
-use Rattle.s66_isa.specs.Lists.{some_of, Among}
-use Rattle.s66_isa.specs.Table.{Reg, Write, same_reg, has_reg}
-use Rattle.s66_isa.specs.Registers.{index_of, registers_in}
+use Rattle.s66_isa.specs.{some_of, Among, Write, same_reg, has_reg, index_of, registers_in}
+use Rattle.s66_isa.specs.Table.{Reg}
 use Rattle.s66_isa.proofs.RegisterBits.{has-none, index-apart}
 use Rattle.s66_isa.proofs.SameRegister.{has_reg-append, same_reg-self, same_reg-true}
-use Rattle.s66_model.specs.Timing.{Problem, row_at}
-use Rattle.s66_bound.specs.declared.cost.Cost.{Cost}
-use Rattle.s66_bound.specs.InstructionCosts.{IsCostOf, AreCosts}
-use Rattle.s66_bound.specs.TableWords.{AreRegisters}
+use Rattle.s66_model.specs.{Problem, row_at}
+use Rattle.s66_bound.specs.{Cost, IsCostOf, AreCosts, AreRegisters}
 
 some-written : (ws : List Write) (w : Write) → Among w ws → some_of (λ (v : Write). same_reg v.reg w.reg) ws ≡ true
 some-written [] w among = absurd among

@@ -1,9 +1,8 @@
 -- Used by contracts within the crate alone: what is stored of an instruction to find links, tails and work.
 use Rattle.std.specs.Prelude.{ℕ, ◌+◌, ◌<◌, ◌≡◌, List, length, get_or}
-use Rattle.s66_isa.specs.Table.{Reg, Row, has_reg}
-use Rattle.s66_isa.specs.Registers.{registers_in}
-use Rattle.s66_model.specs.Timing.{Problem, row_at}
-use Rattle.s66_model.specs.Leaves.{uses, tail}
+use Rattle.s66_isa.specs.Table.{Reg}
+use Rattle.s66_isa.specs.{Row, has_reg, registers_in}
+use Rattle.s66_model.specs.{Problem, row_at, uses, tail}
 use Rattle.s66_bound.specs.declared.cost.Cost.{Cost}
 
 pub record IsCostOf (r : Row) (cost : Cost) : Type 0 where

@@ -1,8 +1,6 @@
 -- Used by contracts within the crate alone: numbers whose words are less than those of others; the word of n is at place n - 1.
 use Rattle.std.specs.Prelude.{ℕ, ◌-◌, ◌≡◌, ◌≤◌, true, List, get_or}
-use Rattle.s66_isa.specs.Lists.{has}
-use Rattle.s66_isa.specs.declared.set.Set.{Set}
-use Rattle.s66_isa.specs.Members.{numbers_in}
+use Rattle.s66_isa.specs.{has, Set, numbers_in}
 
 -- of the numbers from 1 to a count, none has a lesser word than one of the set
 abbrev pub AreEnds : List ℕ → ℕ → Set → Type 0

@@ -1,19 +1,9 @@
 -- Used by contracts within the crate alone: what the tables of a block hold.
-use Rattle.std.specs.Prelude.{ℕ, ◌+◌, ◌-◌, ◌≡◌, ◌≤◌, ◌<◌, ◌==◌, Bool, true, List, length, get_or}
-use Rattle.std.specs.List.{filter}
-use Rattle.s66_isa.specs.declared.profile.Profile.{Profile}
-use Rattle.s66_isa.specs.declared.instr.Kind.{Kind}
-use Rattle.s66_isa.specs.Lists.{Among, weigh}
-use Rattle.s66_isa.specs.Table.{Reg, kind_number, numbers}
-use Rattle.s66_isa.specs.Registers.{index_of}
-use Rattle.s66_isa.specs.declared.limits.TheConstants.{BLOCK_LIMIT}
-use Rattle.s66_line.specs.Blocks.{Block, instrs_of}
-use Rattle.s66_model.specs.Timing.{Problem, row_at}
-use Rattle.s66_model.specs.LegalOrder.{remaining, IsBeginning}
-use Rattle.s66_model.specs.Leaves.{uses, work_of}
-use Rattle.s66_model.specs.Tails.{longest_tail, spare, HasWritten, HasWords}
-use Rattle.s66_isa.specs.declared.set.Set.{Set}
-use Rattle.s66_isa.specs.Members.{numbers_in, no_set}
+use Rattle.std.specs.Prelude.{ℕ, ◌+◌, ◌-◌, ◌≡◌, ◌≤◌, ◌<◌, ◌==◌, Bool, true, List, length, get_or, filter}
+use Rattle.s66_isa.specs.{Profile, Kind, Among, weigh, kind_number, numbers, index_of, BLOCK_LIMIT, Set, numbers_in, no_set}
+use Rattle.s66_isa.specs.Table.{Reg}
+use Rattle.s66_model.specs.{Problem, row_at, remaining, IsBeginning, uses, work_of, longest_tail, spare, HasWritten, HasWords}
+use Rattle.s66_line.specs.{Block, instrs_of}
 use Rattle.s66_time.specs.Ticking.{Ticking}
 use Rattle.s66_bound.specs.declared.tables.Tables.{Tables}
 use Rattle.s66_bound.specs.LeastWords.{AreEnds}

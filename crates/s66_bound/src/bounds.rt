@@ -24,7 +24,7 @@ pub struct Bounds<'a> {
 }
 
 impl<'a> Model for Bounds<'a> {
-    ghost use Rattle.s66_model.specs.Timing.{Problem};
+    ghost use Rattle.s66_model.specs.{Problem};
     ghost use Rattle.s66_bound.specs.InstructionCosts.{AreCosts};
     ghost use Rattle.s66_bound.specs.TableWords.{timed_by, IsTables};
 
@@ -38,15 +38,11 @@ impl<'a> Model for Bounds<'a> {
 
 impl<'a> Bounds<'a> {
     ghost use Rattle.std.specs.Prelude.{ℕ, List, ◌≡◌, ◌<◌, ◌≤◌, ◌++◌, [], length};
-    ghost use Rattle.s66_isa.specs.declared.limits.TheConstants.{BLOCK_LIMIT};
-    ghost use Rattle.s66_line.specs.Blocks.{instrs_of};
-    ghost use Rattle.s66_model.specs.Timing.{total_of};
-    ghost use Rattle.s66_model.specs.LegalOrder.{IsLegal};
-    ghost use Rattle.s66_model.specs.Leaves.{load, parcels, floor, floor_value};
-    ghost use Rattle.s66_model.specs.Tails.{longest_tail};
-    ghost use Rattle.s66_time.specs.Ticking.{problem_of};
-    ghost use Rattle.s66_bound.specs.LeafValues.{leaf_of, value_of};
-    ghost use Rattle.s66_bound.specs.Ranks.{rank, AreRanksLeft};
+    ghost use Rattle.s66_isa.specs.{BLOCK_LIMIT};
+    ghost use Rattle.s66_line.specs.{instrs_of};
+    ghost use Rattle.s66_model.specs.{total_of, IsLegal, load, parcels, floor, floor_value, longest_tail};
+    ghost use Rattle.s66_time.specs.{problem_of};
+    ghost use Rattle.s66_bound.specs.{leaf_of, value_of, rank, AreRanksLeft};
 
     /// Of a block under a profile, in time quadratic in the block's length.
     pub fn of(block: &'a Block<'a>, profile: &Profile) -> Bounds<'a>

@@ -1,12 +1,10 @@
 //! What the bounds know of an instruction, worked out once, and how long a later instruction waits for it at least (`link`).
 
 ghost use Rattle.std.specs.Prelude.{◌≡◌, if◌then◌else◌};
-ghost use Rattle.s66_isa.specs.Lists.{greatest};
-ghost use Rattle.s66_isa.specs.Table.{Row, Write as WriteOf, Reg as RegOf, row, has_reg};
-ghost use Rattle.s66_isa.specs.Registers.{registers_in};
-ghost use Rattle.s66_model.specs.Leaves.{uses, link, tail};
-ghost use Rattle.s66_bound.specs.InstructionCosts.{IsCostOf, AreCosts};
-ghost use Rattle.s66_bound.specs.TableWords.{timed_by};
+ghost use Rattle.s66_isa.specs.{greatest, Row, Write as WriteOf, row, has_reg, registers_in};
+ghost use Rattle.s66_isa.specs.Table.{Reg as RegOf};
+ghost use Rattle.s66_model.specs.{uses, link, tail};
+ghost use Rattle.s66_bound.specs.{IsCostOf, AreCosts, timed_by};
 
 use arrayvec::ArrayVec;
 use s66_isa::{

@@ -2,12 +2,10 @@
 //! Values are in minor cycles.
 
 ghost use Rattle.std.specs.Prelude.{◌≡◌, ◌<◌, length};
-ghost use Rattle.s66_line.specs.Blocks.{instrs_of};
-ghost use Rattle.s66_model.specs.Leaves.{floor, floor_value};
-ghost use Rattle.s66_time.specs.Ticking.{problem_of};
-ghost use Rattle.s66_bound.specs.InstructionCosts.{AreCosts};
-ghost use Rattle.s66_bound.specs.LeafValues.{leaf_of, value_of};
-ghost use Rattle.s66_bound.specs.TableWords.{AreRemaining, IsTables};
+ghost use Rattle.s66_model.specs.{floor, floor_value};
+ghost use Rattle.s66_line.specs.{instrs_of};
+ghost use Rattle.s66_time.specs.{problem_of};
+ghost use Rattle.s66_bound.specs.{AreCosts, leaf_of, value_of, AreRemaining, IsTables};
 
 use crate::cost::Cost;
 use crate::leaf::Leaf;

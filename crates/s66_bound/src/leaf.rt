@@ -28,7 +28,7 @@ pub enum Leaf {
 
 impl Leaf {
     ghost use Rattle.std.specs.Prelude.{◌≡◌};
-    ghost use Rattle.s66_bound.specs.LeafValues.{value_of};
+    ghost use Rattle.s66_bound.specs.{value_of};
 
     /// The bound, in minor cycles.
     pub fn value(&self) -> u32

@@ -1,11 +1,9 @@
 //! The longest tail of each instruction: the longest path along links to later ones, from the last number back to the first.
 
 ghost use Rattle.std.specs.Prelude.{◌≡◌, ◌+◌, ◌-◌, ◌<◌, ◌≤◌, length};
-ghost use Rattle.s66_model.specs.Timing.{Problem};
-ghost use Rattle.s66_model.specs.Tails.{longest_tail, walk_to, HasWords};
-ghost use Rattle.s66_isa.specs.declared.limits.TheConstants.{BLOCK_LIMIT};
-ghost use Rattle.s66_bound.specs.InstructionCosts.{AreCosts};
-ghost use Rattle.s66_bound.specs.TableWords.{HasLater};
+ghost use Rattle.s66_isa.specs.{BLOCK_LIMIT};
+ghost use Rattle.s66_model.specs.{Problem, longest_tail, walk_to, HasWords};
+ghost use Rattle.s66_bound.specs.{AreCosts, HasLater};
 
 use crate::cost::{Cost, link};
 use s66_isa::BLOCK_LIMIT;

@@ -1,10 +1,8 @@
 //! Words of the numbers of a set: the greatest or the least of them. The word of n is at place n - 1.
 
 ghost use Rattle.std.specs.Prelude.{◌≡◌, ◌-◌, ◌<◌, ◌≤◌, get_or, length};
-ghost use Rattle.s66_isa.specs.Lists.{least};
-ghost use Rattle.s66_isa.specs.declared.limits.TheConstants.{BLOCK_LIMIT};
-ghost use Rattle.s66_isa.specs.Members.{numbers_in};
-ghost use Rattle.s66_bound.specs.LeastWords.{AreEnds};
+ghost use Rattle.s66_isa.specs.{least, BLOCK_LIMIT, numbers_in};
+ghost use Rattle.s66_bound.specs.{AreEnds};
 
 use s66_isa::{BLOCK_LIMIT, Set};
 

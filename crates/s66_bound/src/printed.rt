@@ -1,17 +1,11 @@
 //! The chain that is printed: of the longest ones the first by its numbers.
 
 ghost use Rattle.std.specs.Prelude.{ℕ, List, ◌≡◌, ◌≤◌, ◌<◌, ◌+◌, ◌&&◌, ◌==◌, ◌∷◌, not, true, length};
-ghost use Rattle.s66_isa.specs.Lists.{Among};
-ghost use Rattle.s66_isa.specs.declared.limits.TheConstants.{BLOCK_LIMIT};
-ghost use Rattle.s66_line.specs.Blocks.{instrs_of};
-ghost use Rattle.s66_model.specs.Timing.{Problem, row_at};
-ghost use Rattle.s66_model.specs.LegalOrder.{IsBeginning, is_remaining, remaining};
-ghost use Rattle.s66_model.specs.Leaves.{tail, link, is_linked, head, chain, longest_chain};
-ghost use Rattle.s66_model.specs.Tails.{longest_tail, chain_front, walk_after};
-ghost use Rattle.s66_isa.specs.Members.{numbers_in};
-ghost use Rattle.s66_time.specs.Ticking.{problem_of, points};
-ghost use Rattle.s66_bound.specs.InstructionCosts.{AreCosts};
-ghost use Rattle.s66_bound.specs.TableWords.{AreRemaining, IsTables};
+ghost use Rattle.s66_isa.specs.{Among, BLOCK_LIMIT, numbers_in};
+ghost use Rattle.s66_model.specs.{Problem, row_at, IsBeginning, is_remaining, remaining, tail, link, is_linked, head, chain, longest_chain, longest_tail, chain_front, walk_after};
+ghost use Rattle.s66_line.specs.{instrs_of};
+ghost use Rattle.s66_time.specs.{problem_of, points};
+ghost use Rattle.s66_bound.specs.{AreCosts, AreRemaining, IsTables};
 
 use crate::cost::{Cost, link};
 use crate::tables::Tables;

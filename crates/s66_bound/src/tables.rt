@@ -2,18 +2,9 @@
 //! unit its work.
 
 ghost use Rattle.std.specs.Prelude.{◌≡◌, ◌+◌, ◌≤◌, ◌<◌, ◌==◌, true, length};
-ghost use Rattle.s66_isa.specs.declared.reg.TheConstants.{REGISTER_COUNT};
-ghost use Rattle.s66_isa.specs.Lists.{some_of};
-ghost use Rattle.s66_isa.specs.Registers.{index_of};
-ghost use Rattle.s66_isa.specs.Table.{same_reg, Write as WriteOf};
-ghost use Rattle.s66_isa.specs.declared.limits.TheConstants.{BLOCK_LIMIT};
-ghost use Rattle.s66_model.specs.Timing.{Problem, row_at};
-ghost use Rattle.s66_model.specs.Leaves.{uses};
-ghost use Rattle.s66_model.specs.Tails.{spare, HasWords, HasWritten};
-ghost use Rattle.s66_bound.specs.InstructionCosts.{AreCosts};
-ghost use Rattle.s66_bound.specs.declared.cost.Cost.{Cost as CostOf};
-ghost use Rattle.s66_bound.specs.Ranks.{IsRanking};
-ghost use Rattle.s66_bound.specs.TableWords.{AreThose, AreRegisters, HasSingles, HasWorks, HasUsers, IsTables};
+ghost use Rattle.s66_isa.specs.{REGISTER_COUNT, some_of, index_of, same_reg, Write as WriteOf, BLOCK_LIMIT};
+ghost use Rattle.s66_model.specs.{Problem, row_at, uses, spare, HasWords, HasWritten};
+ghost use Rattle.s66_bound.specs.{AreCosts, Cost as CostOf, IsRanking, AreThose, AreRegisters, HasSingles, HasWorks, HasUsers, IsTables};
 
 use crate::cost::Cost;
 use crate::longest::longest_tails;

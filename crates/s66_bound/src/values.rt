@@ -2,18 +2,11 @@
 //! cycles.
 
 ghost use Rattle.std.specs.Prelude.{◌≡◌, ◌+◌, ◌-◌, ◌<◌, ◌≤◌, ◌^◌, true, length, max, get_or};
-ghost use Rattle.s66_isa.specs.Lists.{greatest, least};
-ghost use Rattle.s66_isa.specs.Table.{all_kinds, copies_of};
-ghost use Rattle.s66_line.specs.Blocks.{instrs_of};
-ghost use Rattle.s66_model.specs.Timing.{row_at};
-ghost use Rattle.s66_model.specs.LegalOrder.{IsBeginning, sum_remaining};
-ghost use Rattle.s66_model.specs.Leaves.{work_of, over, chain, load, parcels, floor_value};
-ghost use Rattle.s66_model.specs.Tails.{tail_remaining, chain_by};
-ghost use Rattle.s66_isa.specs.Members.{numbers_in};
-ghost use Rattle.s66_time.specs.declared.limits.TheConstants.{COPIES_LIMIT, TOTAL_LIMIT};
-ghost use Rattle.s66_time.specs.Ticking.{problem_of};
-ghost use Rattle.s66_bound.specs.Ranks.{AreRanksLeft};
-ghost use Rattle.s66_bound.specs.TableWords.{AreRemaining, HasSingles, IsTables};
+ghost use Rattle.s66_isa.specs.{greatest, least, all_kinds, copies_of, numbers_in};
+ghost use Rattle.s66_model.specs.{row_at, IsBeginning, sum_remaining, work_of, over, chain, load, parcels, floor_value, tail_remaining, chain_by};
+ghost use Rattle.s66_line.specs.{instrs_of};
+ghost use Rattle.s66_time.specs.{COPIES_LIMIT, TOTAL_LIMIT, problem_of};
+ghost use Rattle.s66_bound.specs.{AreRanksLeft, AreRemaining, HasSingles, IsTables};
 
 use crate::numbers::least_of;
 use crate::tables::Tables;

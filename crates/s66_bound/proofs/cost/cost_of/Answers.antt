@@ -1,6 +1,5 @@
 use Rattle.std.proofs.Common.{◌+◌, max, sym, ap, ◌∙◌}
-use Rattle.s66_isa.specs.Lists.{greatest}
-use Rattle.s66_isa.specs.Table.{Write, row}
+use Rattle.s66_isa.specs.{greatest, Write, row}
 use Rattle.s66_bound.proofs.cost.cost_of.Goals as goal
 
 pub returns : goal.returns

@@ -1,9 +1,8 @@
 use Rattle.std.proofs.Common.{ℕ, ◌+◌, ◌<◌, List, length, get_or, sym, subst, arith}
-use Rattle.s66_isa.specs.Table.{Instr, row}
-use Rattle.s66_model.specs.Timing.{Problem, row_at}
-use Rattle.s66_bound.specs.declared.cost.Cost.{Cost}
-use Rattle.s66_bound.specs.InstructionCosts.{IsCostOf}
-use Rattle.s66_bound.specs.TableWords.{timed_by}
+use Rattle.s66_isa.specs.Table.{Instr}
+use Rattle.s66_isa.specs.{row}
+use Rattle.s66_model.specs.{Problem, row_at}
+use Rattle.s66_bound.specs.{Cost, IsCostOf, timed_by}
 use Rattle.s66_bound.proofs.CostTables.{costs-push}
 use Rattle.s66_bound.proofs.cost.costs_of.Goals as goal
 

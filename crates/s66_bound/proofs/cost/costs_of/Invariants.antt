@@ -1,8 +1,6 @@
 use Rattle.std.proofs.Common.{ℕ, ◌≡◌, ◌+◌, ◌<◌, length, get_or}
-use Rattle.s66_model.specs.Timing.{row_at}
-use Rattle.s66_bound.specs.declared.cost.Cost.{Cost}
-use Rattle.s66_bound.specs.InstructionCosts.{IsCostOf}
-use Rattle.s66_bound.specs.TableWords.{timed_by}
+use Rattle.s66_model.specs.{row_at}
+use Rattle.s66_bound.specs.{Cost, IsCostOf, timed_by}
 use Rattle.s66_bound.proofs.cost.costs_of.Given as goal
 
 abbrev pub invariant-loop-position : goal.invariant-loop-position

@@ -1,5 +1,5 @@
 use Rattle.std.proofs.Common.{arith, ap}
-use Rattle.s66_isa.specs.Table.{Write}
+use Rattle.s66_isa.specs.{Write}
 use Rattle.s66_time.proofs.Loops.{greatest_more}
 use Rattle.s66_bound.proofs.cost.greatest_latency.Goals as goal
 

@@ -1,10 +1,9 @@
 use Rattle.std.proofs.Common.{ℕ, cond, arith, sym, ap, ◌∙◌}
 use Rattle.std.proofs.lemmas.Bool.{cond-true, cond-false}
-use Rattle.s66_isa.specs.Table.{Write, has_reg}
-use Rattle.s66_isa.specs.Registers.{registers_in}
+use Rattle.s66_isa.specs.{Write, has_reg, registers_in}
 use Rattle.s66_time.proofs.Loops.{greatest_more}
-use Rattle.s66_bound.proofs.cost.greatest_shared.Goals as goal
 use Rattle.s66_bound.proofs.cost.greatest_shared.Goals.{then-has, else-has}
+use Rattle.s66_bound.proofs.cost.greatest_shared.Goals as goal
 
 pub loop-write-preserved : goal.loop-write-preserved
 loop-write-preserved c =

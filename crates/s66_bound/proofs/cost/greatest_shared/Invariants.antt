@@ -1,7 +1,5 @@
 use Rattle.std.proofs.Common.{◌≡◌, if◌then◌else◌, take}
-use Rattle.s66_isa.specs.Lists.{greatest}
-use Rattle.s66_isa.specs.Table.{Write, has_reg}
-use Rattle.s66_isa.specs.Registers.{registers_in}
+use Rattle.s66_isa.specs.{greatest, Write, has_reg, registers_in}
 use Rattle.s66_bound.proofs.cost.greatest_shared.Given as goal
 
 abbrev pub invariant-loop-write : goal.invariant-loop-write

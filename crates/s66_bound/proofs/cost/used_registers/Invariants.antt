@@ -1,7 +1,6 @@
 use Rattle.std.proofs.Common.{◌≡◌, ◌||◌, take}
-use Rattle.s66_isa.specs.Lists.{some_of}
-use Rattle.s66_isa.specs.Table.{Reg, Write, has_reg, same_reg}
-use Rattle.s66_isa.specs.Registers.{registers_in}
+use Rattle.s66_isa.specs.{some_of, Write, has_reg, same_reg, registers_in}
+use Rattle.s66_isa.specs.Table.{Reg}
 use Rattle.s66_bound.proofs.cost.used_registers.Given as goal
 
 abbrev pub invariant-loop-write : goal.invariant-loop-write

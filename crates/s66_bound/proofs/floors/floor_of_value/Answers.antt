@@ -1,10 +1,9 @@
 use Rattle.std.proofs.Common.{ℕ, ◌+◌, List, ap, sym, subst, arith, drop, get_or, ◌∙◌}
 use Rattle.std.proofs.lemmas.List.{drop_all}
-use Rattle.s66_isa.specs.declared.instr.Kind.TheVariants.{Boolean}
-use Rattle.s66_isa.specs.Table.{all_kinds}
-use Rattle.s66_model.specs.Leaves.{Chain, Load, Parcels}
+use Rattle.s66_isa.specs.{Boolean, all_kinds}
+use Rattle.s66_model.specs.{Chain, Load, Parcels}
 use Rattle.s66_model.proofs.FloorWalk.{leaves_from, leaves-step}
-use Rattle.s66_time.specs.Ticking.{problem_of}
+use Rattle.s66_time.specs.{problem_of}
 use Rattle.s66_bound.proofs.FirstGreatest.{IsToCome, chain-met, chain-passed, load-at_most, other-passed, other-met, last-met}
 use Rattle.s66_bound.proofs.floors.floor_of_value.Goals as goal
 

@@ -1,6 +1,6 @@
 use Rattle.std.proofs.Common.{drop}
 use Rattle.s66_model.proofs.FloorWalk.{leaves_from}
-use Rattle.s66_time.specs.Ticking.{problem_of}
+use Rattle.s66_time.specs.{problem_of}
 use Rattle.s66_bound.proofs.FirstGreatest.{IsToCome}
 use Rattle.s66_bound.proofs.floors.floor_of_value.Given as goal
 

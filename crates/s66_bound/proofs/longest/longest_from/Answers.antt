@@ -1,10 +1,8 @@
 use Rattle.std.proofs.Common.{◌+◌, max, ap, sym, arith, ◌∙◌}
-use Rattle.s66_isa.specs.Lists.{greatest, rising}
-use Rattle.s66_model.specs.Timing.{row_at}
-use Rattle.s66_model.specs.Leaves.{tail}
-use Rattle.s66_model.specs.Tails.{walk_to}
+use Rattle.s66_isa.specs.{greatest, rising}
+use Rattle.s66_model.specs.{row_at, tail, walk_to}
 use Rattle.s66_model.proofs.TailTable.{table-step}
-use Rattle.s66_bound.specs.declared.cost.Cost.{Cost}
+use Rattle.s66_bound.specs.{Cost}
 use Rattle.s66_bound.proofs.CostTables.{cost-at}
 use Rattle.s66_bound.proofs.LongestWalks.{walks-back, greatest-next}
 use Rattle.s66_bound.proofs.longest.longest_from.Goals as goal

@@ -1,10 +1,7 @@
 use Rattle.std.proofs.Common.{◌≡◌, ◌+◌, max}
-use Rattle.s66_isa.specs.Lists.{greatest, rising}
-use Rattle.s66_model.specs.Timing.{Problem, row_at}
-use Rattle.s66_model.specs.Leaves.{tail}
-use Rattle.s66_model.specs.Tails.{walk_to}
-use Rattle.s66_bound.specs.InstructionCosts.{AreCosts}
-use Rattle.s66_bound.specs.TableWords.{HasLater}
+use Rattle.s66_isa.specs.{greatest, rising}
+use Rattle.s66_model.specs.{Problem, row_at, tail, walk_to}
+use Rattle.s66_bound.specs.{AreCosts, HasLater}
 use Rattle.s66_bound.proofs.longest.longest_from.Given as goal
 
 abbrev pub invariant-loop-later : goal.invariant-loop-later

@@ -1,8 +1,7 @@
 use Rattle.std.proofs.Common.{ℕ, ◌≡◌, ◌-◌, ◌<◌, ◌≤◌, length, get_or}
-use Rattle.s66_isa.specs.declared.limits.TheConstants.{BLOCK_LIMIT}
-use Rattle.s66_model.specs.Timing.{Problem}
-use Rattle.s66_model.specs.Tails.{longest_tail}
-use Rattle.s66_bound.specs.InstructionCosts.{AreCosts}
+use Rattle.s66_isa.specs.{BLOCK_LIMIT}
+use Rattle.s66_model.specs.{Problem, longest_tail}
+use Rattle.s66_bound.specs.{AreCosts}
 use Rattle.s66_bound.proofs.longest.longest_tails.Given as goal
 
 abbrev pub decreases-loop-place : goal.decreases-loop-place

@@ -1,9 +1,9 @@
 use Rattle.std.proofs.Common.{◌+◌, ◌-◌, ◌≡◌, arith, sym, subst, ap, true≢false, ◌∙◌, inl, inr, get_or}
 use Rattle.std.proofs.lemmas.Bool.{cases_eq}
-use Rattle.s66_isa.specs.Lists.{has}
+use Rattle.s66_isa.specs.{has}
 use Rattle.s66_bound.proofs.LeastWords.{AreOf, of-push}
-use Rattle.s66_bound.proofs.numbers.ends_of.Goals as goal
 use Rattle.s66_bound.proofs.numbers.ends_of.Goals.{then-words-position, else-words-position}
+use Rattle.s66_bound.proofs.numbers.ends_of.Goals as goal
 
 pub loop-place-preserved : goal.loop-place-preserved
 loop-place-preserved c = λ m low high.

@@ -1,5 +1,5 @@
 use Rattle.std.proofs.Common.{ℕ, ◌-◌, ◌^◌, get_or, sym, ap, arith, ◌∙◌}
-use Rattle.s66_isa.specs.Members.{numbers_in}
+use Rattle.s66_isa.specs.{numbers_in}
 use Rattle.s66_bound.proofs.SetWalks.{least_with, least-from}
 use Rattle.s66_bound.proofs.numbers.least_of.Goals as goal
 

@@ -1,5 +1,5 @@
 use Rattle.std.proofs.Common.{◌≡◌, ◌-◌, ◌^◌, get_or, length}
-use Rattle.s66_isa.specs.Members.{numbers_in}
+use Rattle.s66_isa.specs.{numbers_in}
 use Rattle.s66_bound.proofs.SetWalks.{least_with}
 use Rattle.s66_bound.proofs.numbers.least_of.Given as goal
 

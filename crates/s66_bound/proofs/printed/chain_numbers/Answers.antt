@@ -1,12 +1,11 @@
 use Rattle.std.proofs.Common.{◌≡◌, ◌∷◌, true, length, sym, subst, ap, arith, ◌∙◌}
-use Rattle.s66_isa.specs.Lists.{Among}
-use Rattle.s66_model.specs.LegalOrder.{is_remaining}
-use Rattle.s66_model.specs.Tails.{chain_front, walk_after}
+use Rattle.s66_isa.specs.{Among}
+use Rattle.s66_model.specs.{is_remaining, chain_front, walk_after}
 use Rattle.s66_model.proofs.Remaining.{remaining-parts, remaining-among}
 use Rattle.s66_model.proofs.Floors.{some-remains}
 use Rattle.s66_model.proofs.PrintedChain.{longest_chain-static}
 use Rattle.s66_model.proofs.WalkOver.{chain_front-remains}
-use Rattle.s66_time.specs.Ticking.{problem_of}
+use Rattle.s66_time.specs.{problem_of}
 use Rattle.s66_bound.proofs.printed.chain_numbers.Goals as goal
 
 pub walk_from-requires-clause-rest : goal.walk_from-requires-clause-rest

@@ -1,17 +1,12 @@
-use Rattle.std.proofs.Common.{ℕ, ◌≡◌, ◌≢◌, ◌+◌, ◌∙◌, true, false, sym, subst, ap, arith, inl, inr, refl}
-use Rattle.std.proofs.lemmas.Bool.{eq-eqb, ne_eqb}
-use Rattle.s66_isa.specs.Lists.{first_that, Among}
-use Rattle.s66_line.specs.Blocks.{instrs_of}
-use Rattle.s66_model.specs.Timing.{row_at}
-use Rattle.s66_model.specs.LegalOrder.{is_remaining}
-use Rattle.s66_model.specs.Leaves.{head, chain}
-use Rattle.s66_model.specs.Tails.{longest_tail}
+use Rattle.std.proofs.Common.{ℕ, ◌≡◌, ◌≢◌, ◌+◌, ◌∙◌, true, false, sym, subst, ap, arith, inl, inr, refl, eq-eqb, ne_eqb}
+use Rattle.s66_isa.specs.{first_that, Among, numbers_in}
+use Rattle.s66_model.specs.{row_at, is_remaining, head, chain, longest_tail}
 use Rattle.s66_model.proofs.Remaining.{remaining-parts, remaining-among}
 use Rattle.s66_model.proofs.FloorParts.{head-fits}
 use Rattle.s66_model.proofs.WalkOver.{first-passed, first-failed}
-use Rattle.s66_isa.specs.Members.{numbers_in}
+use Rattle.s66_line.specs.{instrs_of}
+use Rattle.s66_time.specs.{problem_of, points}
 use Rattle.s66_bound.proofs.Heads.{heads_chain}
-use Rattle.s66_time.specs.Ticking.{problem_of, points}
 use Rattle.s66_bound.proofs.printed.first_of_chain.Goals.{else-saturating_sub-latest-via-then-saturating_sub-latest+else-head_of-longest, else-saturating_sub-latest-via-else-saturating_sub-latest}
 use Rattle.s66_bound.proofs.printed.first_of_chain.Goals as goal
 

@@ -1,10 +1,9 @@
 use Rattle.std.proofs.Common.{ℕ, ◌≡◌, true, length}
-use Rattle.s66_isa.specs.Lists.{first_that, Among}
-use Rattle.s66_line.specs.Blocks.{instrs_of}
-use Rattle.s66_model.specs.LegalOrder.{is_remaining, remaining}
-use Rattle.s66_isa.specs.Members.{numbers_in}
+use Rattle.s66_isa.specs.{first_that, Among, numbers_in}
+use Rattle.s66_model.specs.{is_remaining, remaining}
+use Rattle.s66_line.specs.{instrs_of}
+use Rattle.s66_time.specs.{problem_of}
 use Rattle.s66_bound.proofs.Heads.{heads_chain}
-use Rattle.s66_time.specs.Ticking.{problem_of}
 use Rattle.s66_bound.proofs.printed.first_of_chain.Given as goal
 
 abbrev pub invariant-loop-number : goal.invariant-loop-number

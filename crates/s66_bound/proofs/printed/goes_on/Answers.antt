@@ -1,8 +1,6 @@
-use Rattle.std.proofs.Common.{ℕ, ◌+◌, ◌-◌, ◌≡◌, Bool, true, ◌&&◌, not, eqb, ltb, arith, get_or, refl, sym, ◌∙◌, eq-eqb, ne_eqb}
-use Rattle.std.proofs.lemmas.Bool.{and_left, and_right, and_from, not_from_true, not_from_false, lt-ltb, le-ltb}
-use Rattle.s66_model.specs.Timing.{Problem, row_at}
-use Rattle.s66_model.specs.Leaves.{tail, link, is_linked}
-use Rattle.s66_model.specs.Tails.{longest_tail}
+use Rattle.std.proofs.Common.{ℕ, ◌+◌, ◌-◌, ◌≡◌, Bool, true, ◌&&◌, not, eqb, ltb, arith, get_or, refl, sym, ◌∙◌, eq-eqb, ne_eqb, lt-ltb, le-ltb}
+use Rattle.std.proofs.lemmas.Bool.{and_left, and_right, and_from, not_from_true, not_from_false}
+use Rattle.s66_model.specs.{Problem, row_at, tail, link, is_linked, longest_tail}
 use Rattle.s66_model.proofs.TailTable.{link-small, tail-fits}
 use Rattle.s66_bound.proofs.CostOfNumber.{cost-of}
 use Rattle.s66_bound.proofs.printed.goes_on.Goals.{then-from-longest-via-then-from-longest, then-from-longest-via-else-from-longest+then-other-number}

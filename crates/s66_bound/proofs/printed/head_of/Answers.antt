@@ -1,14 +1,10 @@
 use Rattle.std.proofs.Common.{ℕ, ◌≡◌, ◌≤◌, ◌<◌, get_or, sym, subst, ap, arith, ◌∙◌, length}
 use Rattle.std.proofs.lemmas.List.{drop_all}
-use Rattle.s66_isa.specs.Lists.{greatest, has}
-use Rattle.s66_isa.specs.Registers.{index_of}
-use Rattle.s66_model.specs.Timing.{row_at}
-use Rattle.s66_model.specs.Leaves.{uses}
-use Rattle.s66_model.specs.Tails.{longest_tail}
+use Rattle.s66_isa.specs.{greatest, has, index_of, numbers_in, no_set}
+use Rattle.s66_model.specs.{row_at, uses, longest_tail}
 use Rattle.s66_model.proofs.LateRegisters.{has-late}
 use Rattle.s66_model.proofs.HeadByRegisters.{done_for, head-by-registers}
-use Rattle.s66_isa.specs.Members.{numbers_in, no_set}
-use Rattle.s66_time.specs.Ticking.{problem_of}
+use Rattle.s66_time.specs.{problem_of}
 use Rattle.s66_bound.proofs.Heads.{greatest-drop, done-used, done-unused}
 use Rattle.s66_bound.proofs.printed.head_of.Goals.{then-has, else-has}
 use Rattle.s66_bound.proofs.printed.head_of.Goals as goal

@@ -1,8 +1,8 @@
 use Rattle.std.proofs.Common.{◌≡◌, drop, max}
-use Rattle.s66_isa.specs.Lists.{greatest}
-use Rattle.s66_model.specs.Timing.{next}
+use Rattle.s66_isa.specs.{greatest}
+use Rattle.s66_model.specs.{next}
 use Rattle.s66_model.proofs.HeadByRegisters.{done_for}
-use Rattle.s66_time.specs.Ticking.{problem_of, points}
+use Rattle.s66_time.specs.{problem_of, points}
 use Rattle.s66_bound.proofs.printed.head_of.Given as goal
 
 abbrev pub invariant-loop-register : goal.invariant-loop-register

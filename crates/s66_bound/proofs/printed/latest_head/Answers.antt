@@ -1,9 +1,8 @@
-use Rattle.std.proofs.Common.{ap, arith, ◌∙◌}
-use Rattle.std.proofs.lemmas.List.{take_all}
-use Rattle.s66_isa.specs.Lists.{greatest}
-use Rattle.s66_model.specs.Timing.{done_of}
+use Rattle.std.proofs.Common.{ap, arith, ◌∙◌, take_all}
+use Rattle.s66_isa.specs.{greatest}
+use Rattle.s66_model.specs.{done_of}
 use Rattle.s66_model.proofs.LateRegisters.{has-late}
-use Rattle.s66_time.specs.Ticking.{problem_of, points}
+use Rattle.s66_time.specs.{problem_of, points}
 use Rattle.s66_time.proofs.Loops.{greatest_more}
 use Rattle.s66_bound.proofs.Heads.{head-le}
 use Rattle.s66_bound.proofs.printed.latest_head.Goals as goal

@@ -1,7 +1,7 @@
 use Rattle.std.proofs.Common.{◌≡◌, max, take}
-use Rattle.s66_isa.specs.Lists.{greatest}
-use Rattle.s66_model.specs.Timing.{next, done_of}
-use Rattle.s66_time.specs.Ticking.{points}
+use Rattle.s66_isa.specs.{greatest}
+use Rattle.s66_model.specs.{next, done_of}
+use Rattle.s66_time.specs.{points}
 use Rattle.s66_bound.proofs.printed.latest_head.Given as goal
 
 abbrev pub invariant-loop-register : goal.invariant-loop-register

@@ -1,8 +1,6 @@
-use Rattle.std.proofs.Common.{ℕ, List, ◌≡◌, ◌∷◌, ◌++◌, [], true, length, length-append, append_assoc, refl, sym, subst, ap, arith, inl, inr, ◌∙◌}
-use Rattle.std.proofs.lemmas.List.{append-nil}
-use Rattle.s66_isa.specs.Lists.{Among}
+use Rattle.std.proofs.Common.{ℕ, List, ◌≡◌, ◌∷◌, ◌++◌, [], true, length, length-append, append_assoc, refl, sym, subst, ap, arith, inl, inr, ◌∙◌, append-nil}
+use Rattle.s66_isa.specs.{Among, numbers_in}
 use Rattle.s66_model.proofs.WalkOver.{goes_on, walk_over, over-on, over-past, goes-parts, pass-walks}
-use Rattle.s66_isa.specs.Members.{numbers_in}
 use Rattle.s66_bound.proofs.printed.walk_from.Goals as goal
 
 pub goes_on-requires-clause-numbers : goal.goes_on-requires-clause-numbers

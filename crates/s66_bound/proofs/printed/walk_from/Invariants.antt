@@ -1,10 +1,8 @@
 use Rattle.std.proofs.Common.{ℕ, ◌≡◌, ◌≤◌, ◌∷◌, ◌++◌, length}
-use Rattle.s66_isa.specs.Lists.{Among}
-use Rattle.s66_model.specs.Timing.{Problem}
+use Rattle.s66_isa.specs.{Among, numbers_in}
+use Rattle.s66_model.specs.{Problem}
 use Rattle.s66_model.proofs.WalkOver.{walk_over}
-use Rattle.s66_isa.specs.Members.{numbers_in}
-use Rattle.s66_bound.specs.InstructionCosts.{AreCosts}
-use Rattle.s66_bound.specs.TableWords.{IsTables}
+use Rattle.s66_bound.specs.{AreCosts, IsTables}
 use Rattle.s66_bound.proofs.printed.walk_from.Given as goal
 
 abbrev pub invariant-loop-number : goal.invariant-loop-number

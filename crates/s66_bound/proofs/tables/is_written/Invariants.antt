@@ -1,7 +1,6 @@
 use Rattle.std.proofs.Common.{◌≡◌, drop}
-use Rattle.s66_isa.specs.Lists.{some_of}
-use Rattle.s66_isa.specs.Table.{Write, same_reg}
-use Rattle.s66_bound.specs.declared.cost.Cost.{Cost}
+use Rattle.s66_isa.specs.{some_of, Write, same_reg}
+use Rattle.s66_bound.specs.{Cost}
 use Rattle.s66_bound.proofs.tables.is_written.Given as goal
 
 abbrev pub invariant-loop-cost : goal.invariant-loop-cost

@@ -1,5 +1,5 @@
 use Rattle.std.proofs.Common.{◌==◌, arith}
-use Rattle.s66_model.specs.Timing.{row_at}
+use Rattle.s66_model.specs.{row_at}
 use Rattle.s66_bound.proofs.CostTables.{set-filled}
 use Rattle.s66_bound.proofs.tables.long_numbers.Goals as goal
 

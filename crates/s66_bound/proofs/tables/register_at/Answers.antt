@@ -1,7 +1,6 @@
 use Rattle.std.proofs.Common.{ap, arith, ◌∙◌}
 use Rattle.s66_isa.specs.Table.{Reg}
-use Rattle.s66_isa.specs.Registers.{index_of}
-use Rattle.s66_isa.specs.RegisterIndices.{register_at-index}
+use Rattle.s66_isa.specs.{index_of, register_at-index}
 use Rattle.s66_isa.proofs.RegisterBits.{register_at-digit}
 use Rattle.s66_bound.proofs.tables.register_at.Goals as goal
 

@@ -1,8 +1,7 @@
 use Rattle.std.proofs.Common.{ℕ, ◌≡◌, ◌-◌, ◌≤◌, length, get_or}
-use Rattle.s66_isa.specs.declared.limits.TheConstants.{BLOCK_LIMIT}
-use Rattle.s66_model.specs.Timing.{Problem}
-use Rattle.s66_model.specs.Tails.{spare}
-use Rattle.s66_bound.specs.InstructionCosts.{AreCosts}
+use Rattle.s66_isa.specs.{BLOCK_LIMIT}
+use Rattle.s66_model.specs.{Problem, spare}
+use Rattle.s66_bound.specs.{AreCosts}
 use Rattle.s66_bound.proofs.tables.spares.Given as goal
 
 abbrev pub invariant-loop-place : goal.invariant-loop-place

@@ -1,17 +1,13 @@
-use Rattle.std.proofs.Common.{◌≡◌, length, length-set, refl, sym, subst, arith, inl, inr, ◌∙◌}
+use Rattle.std.proofs.Common.{◌≡◌, length, length-set, refl, sym, subst, arith, inl, inr, ◌∙◌, get_or-set_other}
 use Rattle.std.proofs.lemmas.Bool.{cases_eq}
-use Rattle.std.proofs.lemmas.List.{get_or-set_other}
 use Rattle.std.proofs.lemmas.Grind.{get_or-set_at}
 use Rattle.s66_isa.specs.Table.{Reg}
-use Rattle.s66_isa.specs.Registers.{index_of}
+use Rattle.s66_isa.specs.{index_of, no_set}
 use Rattle.s66_isa.proofs.RegisterBits.{index-apart}
 use Rattle.s66_isa.proofs.SameRegister.{same_reg-true}
-use Rattle.s66_model.specs.Timing.{row_at}
-use Rattle.s66_model.specs.Leaves.{uses}
-use Rattle.s66_model.specs.Tails.{longest_tail}
-use Rattle.s66_isa.specs.Members.{no_set}
+use Rattle.s66_model.specs.{row_at, uses, longest_tail}
 use Rattle.s66_time.proofs.RankOrder.{those-within, ranks-those}
-use Rattle.s66_bound.specs.Ranks.{AreRanks}
+use Rattle.s66_bound.specs.{AreRanks}
 use Rattle.s66_bound.proofs.tables.users_by_rank.Goals as goal
 
 pub ranks-requires : goal.ranks-requires

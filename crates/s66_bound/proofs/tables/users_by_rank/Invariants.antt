@@ -1,11 +1,8 @@
 use Rattle.std.proofs.Common.{◌≡◌, ◌<◌, ◌≤◌, length, get_or}
 use Rattle.s66_isa.specs.Table.{Reg}
-use Rattle.s66_isa.specs.Registers.{index_of}
-use Rattle.s66_model.specs.Timing.{Problem, row_at}
-use Rattle.s66_model.specs.Leaves.{uses}
-use Rattle.s66_isa.specs.Members.{no_set}
-use Rattle.s66_bound.specs.InstructionCosts.{AreCosts}
-use Rattle.s66_bound.specs.Ranks.{IsRanking, AreRanks}
+use Rattle.s66_isa.specs.{index_of, no_set}
+use Rattle.s66_model.specs.{Problem, row_at, uses}
+use Rattle.s66_bound.specs.{AreCosts, IsRanking, AreRanks}
 use Rattle.s66_bound.proofs.tables.users_by_rank.Given as goal
 
 abbrev pub invariant-loop-index : goal.invariant-loop-index

@@ -1,6 +1,5 @@
 use Rattle.std.proofs.Common.{arith}
-use Rattle.s66_model.specs.Timing.{row_at}
-use Rattle.s66_model.specs.Leaves.{uses}
+use Rattle.s66_model.specs.{row_at, uses}
 use Rattle.s66_bound.proofs.CostTables.{set-filled}
 use Rattle.s66_bound.proofs.tables.users_of.Goals as goal
 

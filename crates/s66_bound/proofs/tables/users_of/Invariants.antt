@@ -1,10 +1,8 @@
 use Rattle.std.proofs.Common.{ℕ, ◌≡◌, ◌+◌}
-use Rattle.s66_isa.specs.Lists.{has}
-use Rattle.s66_model.specs.Timing.{Problem, row_at}
-use Rattle.s66_model.specs.Leaves.{uses}
-use Rattle.s66_isa.specs.Members.{numbers_in}
+use Rattle.s66_isa.specs.{has, numbers_in}
 use Rattle.s66_isa.proofs.Sets.{within}
-use Rattle.s66_bound.specs.InstructionCosts.{AreCosts}
+use Rattle.s66_model.specs.{Problem, row_at, uses}
+use Rattle.s66_bound.specs.{AreCosts}
 use Rattle.s66_bound.proofs.tables.users_of.Given as goal
 
 abbrev pub invariant-loop-place : goal.invariant-loop-place

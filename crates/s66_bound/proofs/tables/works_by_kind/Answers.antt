@@ -1,7 +1,6 @@
 use Rattle.std.proofs.Common.{◌+◌, ap, arith, get_or, length-set, ◌∙◌}
-use Rattle.s66_isa.specs.Lists.{weigh, rising}
-use Rattle.s66_isa.specs.Table.{kind_number}
-use Rattle.s66_model.specs.Timing.{row_at}
+use Rattle.s66_isa.specs.{weigh, rising, kind_number}
+use Rattle.s66_model.specs.{row_at}
 use Rattle.s66_model.proofs.Beginnings.{length-rising}
 use Rattle.s66_model.proofs.PointTimes.{good-at}
 use Rattle.s66_bound.proofs.WorkTables.{work_at, works-step, work-most}

@@ -1,6 +1,6 @@
 use Rattle.std.proofs.Common.{◌≡◌, length}
-use Rattle.s66_model.specs.Timing.{Problem}
-use Rattle.s66_bound.specs.InstructionCosts.{AreCosts}
+use Rattle.s66_model.specs.{Problem}
+use Rattle.s66_bound.specs.{AreCosts}
 use Rattle.s66_bound.proofs.WorkTables.{HasFirstWorks}
 use Rattle.s66_bound.proofs.tables.works_by_kind.Given as goal
 

@@ -1,9 +1,9 @@
 use Rattle.std.proofs.Common.{◌+◌, sym, subst, arith, ◌∙◌}
 use Rattle.s66_isa.proofs.RegisterBits.{index-few}
-use Rattle.s66_bound.specs.TableWords.{AreRegisters}
+use Rattle.s66_bound.specs.{AreRegisters}
 use Rattle.s66_bound.proofs.WrittenRegisters.{AreListed, registers-push, written-by, listed-push, listed-pass}
-use Rattle.s66_bound.proofs.tables.written_registers.Goals as goal
 use Rattle.s66_bound.proofs.tables.written_registers.Goals.{then-is_written, else-is_written}
+use Rattle.s66_bound.proofs.tables.written_registers.Goals as goal
 
 pub loop-index-preserved : goal.loop-index-preserved
 loop-index-preserved c =

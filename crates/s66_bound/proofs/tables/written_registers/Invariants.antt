@@ -1,5 +1,5 @@
 use Rattle.std.proofs.Common.{◌≤◌, length}
-use Rattle.s66_bound.specs.TableWords.{AreRegisters}
+use Rattle.s66_bound.specs.{AreRegisters}
 use Rattle.s66_bound.proofs.WrittenRegisters.{AreListed}
 use Rattle.s66_bound.proofs.tables.written_registers.Given as goal
 

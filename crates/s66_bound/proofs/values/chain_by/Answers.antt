@@ -1,16 +1,11 @@
 use Rattle.std.proofs.Common.{ℕ, ◌+◌, ◌≡◌, ◌≤◌, not, ◌&&◌, List, length, get_or, sym, subst, arith}
-use Rattle.s66_isa.specs.Lists.{has}
-use Rattle.s66_isa.specs.Registers.{index_of}
+use Rattle.s66_isa.specs.{has, index_of, Set, numbers_in, no_set}
 use Rattle.s66_isa.specs.Table.{Reg}
-use Rattle.s66_model.specs.Timing.{Problem}
-use Rattle.s66_model.specs.Tails.{longest_tail, chain_by}
+use Rattle.s66_model.specs.{Problem, longest_tail, chain_by}
 use Rattle.s66_model.proofs.FloorParts.{by-fits}
-use Rattle.s66_isa.specs.declared.set.Set.{Set}
-use Rattle.s66_isa.specs.Members.{numbers_in, no_set}
+use Rattle.s66_time.specs.{problem_of}
 use Rattle.s66_time.proofs.RankOrder.{ranks-both}
-use Rattle.s66_time.specs.Ticking.{problem_of}
-use Rattle.s66_bound.specs.Ranks.{AreRanks}
-use Rattle.s66_bound.specs.TableWords.{HasUsers}
+use Rattle.s66_bound.specs.{AreRanks, HasUsers}
 use Rattle.s66_bound.proofs.RemainingSums.{is_user, by-greatest, by-none}
 use Rattle.s66_bound.proofs.values.chain_by.Goals as goal
 

@@ -1,6 +1,6 @@
 use Rattle.std.proofs.Common.{refl, arith}
-use Rattle.s66_model.specs.Leaves.{chain}
-use Rattle.s66_time.specs.Ticking.{problem_of}
+use Rattle.s66_model.specs.{chain}
+use Rattle.s66_time.specs.{problem_of}
 use Rattle.s66_bound.proofs.ValueBounds.{floor-greatest}
 use Rattle.s66_bound.proofs.values.floor_value_of.Goals as goal
 

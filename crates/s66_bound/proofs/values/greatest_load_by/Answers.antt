@@ -1,9 +1,7 @@
 use Rattle.std.proofs.Common.{ℕ, List, [], ◌∷◌, ◌≡◌, max, ap, arith, ◌∙◌}
-use Rattle.s66_isa.specs.declared.instr.Kind.{Kind}
-use Rattle.s66_isa.specs.declared.instr.Kind.TheVariants.{Boolean, Shift, Add, LongAdd, Multiply, Divide, Increment}
-use Rattle.s66_isa.specs.Lists.{greatest}
-use Rattle.s66_model.specs.Leaves.{load}
-use Rattle.s66_time.specs.Ticking.{problem_of}
+use Rattle.s66_isa.specs.{Kind, Boolean, Shift, Add, LongAdd, Multiply, Divide, Increment, greatest}
+use Rattle.s66_model.specs.{load}
+use Rattle.s66_time.specs.{problem_of}
 use Rattle.s66_bound.proofs.values.greatest_load_by.Goals as goal
 
 -- one kind more in front

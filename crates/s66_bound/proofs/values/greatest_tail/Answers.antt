@@ -1,7 +1,7 @@
 use Rattle.std.proofs.Common.{not, length}
-use Rattle.s66_isa.specs.Lists.{has}
-use Rattle.s66_model.specs.Tails.{longest_tail}
-use Rattle.s66_time.specs.Ticking.{problem_of}
+use Rattle.s66_isa.specs.{has}
+use Rattle.s66_model.specs.{longest_tail}
+use Rattle.s66_time.specs.{problem_of}
 use Rattle.s66_bound.proofs.RemainingSums.{tail-greatest, tail-none}
 use Rattle.s66_bound.proofs.values.greatest_tail.Goals as goal
 

@@ -1,9 +1,8 @@
 use Rattle.std.proofs.Common.{ap, arith}
-use Rattle.s66_isa.specs.Lists.{greatest}
-use Rattle.s66_isa.specs.Registers.{registers_in}
-use Rattle.s66_model.specs.Tails.{chain_by}
+use Rattle.s66_isa.specs.{greatest, registers_in}
+use Rattle.s66_model.specs.{chain_by}
 use Rattle.s66_model.proofs.FloorParts.{chain-fits}
-use Rattle.s66_time.specs.Ticking.{problem_of}
+use Rattle.s66_time.specs.{problem_of}
 use Rattle.s66_bound.proofs.ValueBounds.{chain-covered, late-covers}
 use Rattle.s66_bound.proofs.values.least_or_chain.Goals as goal
 

@@ -1,9 +1,7 @@
 use Rattle.std.proofs.Common.{◌≡◌, max, length}
-use Rattle.s66_isa.specs.Lists.{greatest}
-use Rattle.s66_isa.specs.Registers.{registers_in}
-use Rattle.s66_model.specs.Leaves.{chain}
-use Rattle.s66_model.specs.Tails.{chain_by}
-use Rattle.s66_time.specs.Ticking.{problem_of}
+use Rattle.s66_isa.specs.{greatest, registers_in}
+use Rattle.s66_model.specs.{chain, chain_by}
+use Rattle.s66_time.specs.{problem_of}
 use Rattle.s66_bound.proofs.values.least_or_chain.Given as goal
 
 abbrev pub decreases-loop-register : goal.decreases-loop-register

@@ -1,5 +1,5 @@
 use Rattle.std.proofs.Common.{length}
-use Rattle.s66_time.specs.Ticking.{problem_of}
+use Rattle.s66_time.specs.{problem_of}
 use Rattle.s66_time.proofs.RemainingSets.{remaining-within}
 use Rattle.s66_bound.proofs.LeastWords.{end-least}
 use Rattle.s66_bound.proofs.values.least_spare.Goals as goal

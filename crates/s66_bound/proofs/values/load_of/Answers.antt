@@ -1,7 +1,6 @@
 use Rattle.std.proofs.Common.{◌+◌, ap, ◌∙◌}
-use Rattle.s66_isa.specs.declared.profile.Profile.{Profile}
-use Rattle.s66_isa.specs.Table.{copies_of}
-use Rattle.s66_time.specs.Ticking.{problem_of}
+use Rattle.s66_isa.specs.{Profile, copies_of}
+use Rattle.s66_time.specs.{problem_of}
 use Rattle.s66_bound.proofs.RemainingSums.{load-is}
 use Rattle.s66_bound.proofs.values.load_of.Goals as goal
 

@@ -1,9 +1,9 @@
 use Rattle.std.proofs.Common.{◌≡◌, ◌+◌, arith, ap, length}
-use Rattle.s66_model.specs.Leaves.{Parcels, parcels}
-use Rattle.s66_model.proofs.FloorParts.{leaf-fits, rest-some}
-use Rattle.s66_isa.specs.Members.{numbers_in}
+use Rattle.s66_isa.specs.{numbers_in}
 use Rattle.s66_isa.proofs.Sets.{numbers_in-few}
-use Rattle.s66_time.specs.Ticking.{problem_of}
+use Rattle.s66_model.specs.{Parcels, parcels}
+use Rattle.s66_model.proofs.FloorParts.{leaf-fits, rest-some}
+use Rattle.s66_time.specs.{problem_of}
 use Rattle.s66_time.proofs.RemainingSets.{both-are}
 use Rattle.s66_bound.proofs.RemainingSums.{is_long, parcels-are}
 use Rattle.s66_bound.proofs.values.parcels_of.Goals as goal

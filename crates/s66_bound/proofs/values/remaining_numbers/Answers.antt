@@ -1,4 +1,4 @@
-use Rattle.s66_line.specs.Blocks.{instrs_of}
+use Rattle.s66_line.specs.{instrs_of}
 use Rattle.s66_time.proofs.RemainingSets.{rest-is}
 use Rattle.s66_bound.proofs.values.remaining_numbers.Goals as goal
 

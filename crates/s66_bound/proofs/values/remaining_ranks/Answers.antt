@@ -1,10 +1,10 @@
 use Rattle.std.proofs.Common.{length, refl}
+use Rattle.s66_isa.specs.{numbers_in}
 use Rattle.s66_isa.proofs.Lists.{has-among}
-use Rattle.s66_model.specs.Tails.{longest_tail}
-use Rattle.s66_isa.specs.Members.{numbers_in}
+use Rattle.s66_model.specs.{longest_tail}
+use Rattle.s66_time.specs.{problem_of}
 use Rattle.s66_time.proofs.RankOrder.{ranks-left}
 use Rattle.s66_time.proofs.RemainingSets.{remaining-within}
-use Rattle.s66_time.specs.Ticking.{problem_of}
 use Rattle.s66_bound.proofs.values.remaining_ranks.Goals as goal
 
 pub ranks-requires : goal.ranks-requires

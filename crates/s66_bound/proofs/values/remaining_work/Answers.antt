@@ -1,8 +1,8 @@
 use Rattle.std.proofs.Common.{◌+◌, ◌≡◌, ap, arith, get_or, length}
-use Rattle.s66_isa.specs.Table.{numbers}
-use Rattle.s66_model.specs.LegalOrder.{sum_remaining}
+use Rattle.s66_isa.specs.{numbers}
+use Rattle.s66_model.specs.{sum_remaining}
 use Rattle.s66_model.proofs.Beginnings.{length-rising}
-use Rattle.s66_time.specs.Ticking.{problem_of}
+use Rattle.s66_time.specs.{problem_of}
 use Rattle.s66_bound.proofs.WorkTables.{work_at, work-remains, work-most}
 use Rattle.s66_bound.proofs.values.remaining_work.Goals as goal
 

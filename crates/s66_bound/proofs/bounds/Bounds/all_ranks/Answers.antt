@@ -1,8 +1,6 @@
 use Rattle.std.proofs.Common.{[], length, subst}
-use Rattle.s66_model.specs.Timing.{Problem}
-use Rattle.s66_model.specs.Tails.{longest_tail}
-use Rattle.s66_bound.specs.Ranks.{AreRanksLeft}
-use Rattle.s66_bound.specs.TableWords.{timed_by}
+use Rattle.s66_model.specs.{Problem, longest_tail}
+use Rattle.s66_bound.specs.{AreRanksLeft, timed_by}
 use Rattle.s66_bound.proofs.RanksHeld.{all-within, all-left}
 use Rattle.s66_bound.proofs.bounds.Bounds.all_ranks.Goals as goal
 

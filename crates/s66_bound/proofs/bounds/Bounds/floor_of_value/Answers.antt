@@ -1,8 +1,7 @@
 use Rattle.std.proofs.Common.{length, sym, ap, arith, ◌∙◌}
-use Rattle.s66_model.specs.Timing.{Problem}
-use Rattle.s66_model.specs.Leaves.{floor, floor_value}
+use Rattle.s66_model.specs.{Problem, floor, floor_value}
 use Rattle.s66_model.proofs.Floors.{floor-whole}
-use Rattle.s66_time.specs.Ticking.{problem_of}
+use Rattle.s66_time.specs.{problem_of}
 use Rattle.s66_bound.proofs.ValueBounds.{whole-none, some-short, floor-bound}
 use Rattle.s66_bound.proofs.bounds.Bounds.floor_of_value.Goals as goal
 

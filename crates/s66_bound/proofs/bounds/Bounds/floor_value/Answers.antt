@@ -1,8 +1,6 @@
 use Rattle.std.proofs.Common.{length, sym, ap, arith, ◌∙◌}
-use Rattle.s66_model.specs.Timing.{Problem}
-use Rattle.s66_model.specs.LegalOrder.{IsComplete}
-use Rattle.s66_model.specs.Leaves.{floor_value}
-use Rattle.s66_time.specs.Ticking.{problem_of}
+use Rattle.s66_model.specs.{Problem, IsComplete, floor_value}
+use Rattle.s66_time.specs.{problem_of}
 use Rattle.s66_bound.proofs.ValueBounds.{whole-none, some-short, floor-whole, floor-bound}
 use Rattle.s66_bound.proofs.bounds.Bounds.floor_value.Goals as goal
 

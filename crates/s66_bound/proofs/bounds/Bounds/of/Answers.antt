@@ -1,8 +1,6 @@
 use Rattle.std.proofs.Common.{List, refl, sym, subst}
-use Rattle.s66_model.specs.Timing.{Problem}
-use Rattle.s66_bound.specs.declared.cost.Cost.{Cost}
-use Rattle.s66_bound.specs.InstructionCosts.{AreCosts}
-use Rattle.s66_bound.specs.TableWords.{timed_by}
+use Rattle.s66_model.specs.{Problem}
+use Rattle.s66_bound.specs.{Cost, AreCosts, timed_by}
 use Rattle.s66_bound.proofs.bounds.Bounds.of.Goals as goal
 
 pub of-tables-requires-clause-known : goal.of-tables-requires-clause-known

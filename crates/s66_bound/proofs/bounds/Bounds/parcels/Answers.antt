@@ -1,8 +1,6 @@
 use Rattle.std.proofs.Common.{ℕ, List, ◌≤◌, ◌<◌, ◌++◌, length, sym, subst, arith}
-use Rattle.s66_model.specs.Timing.{Problem, total_of}
-use Rattle.s66_model.specs.LegalOrder.{IsLegal}
-use Rattle.s66_model.specs.Leaves.{Parcels}
-use Rattle.s66_time.specs.Ticking.{problem_of}
+use Rattle.s66_model.specs.{Problem, total_of, IsLegal, Parcels}
+use Rattle.s66_time.specs.{problem_of}
 use Rattle.s66_bound.proofs.ValueBounds.{leaf-bound}
 use Rattle.s66_bound.proofs.bounds.Bounds.parcels.Goals as goal
 

@@ -1,8 +1,6 @@
 use Rattle.std.proofs.Common.{◌≤◌, length, ap, arith, ◌∙◌}
-use Rattle.s66_model.specs.Timing.{Problem}
-use Rattle.s66_model.specs.Tails.{longest_tail}
-use Rattle.s66_bound.specs.Ranks.{rank}
-use Rattle.s66_bound.specs.TableWords.{timed_by}
+use Rattle.s66_model.specs.{Problem, longest_tail}
+use Rattle.s66_bound.specs.{rank, timed_by}
 use Rattle.s66_bound.proofs.bounds.Bounds.rank.Goals as goal
 
 pub rank-requires : goal.rank-requires

@@ -1,12 +1,9 @@
 use Rattle.std.proofs.Common.{ℕ, ◌-◌, ◌≡◌, List, length, get_or, sym, subst, arith, rules}
-use Rattle.s66_model.specs.Timing.{Problem}
-use Rattle.s66_model.specs.Tails.{longest_tail, HasWords}
-use Rattle.s66_time.specs.declared.graph.ranking.Ranking.{Ranking}
+use Rattle.s66_model.specs.{Problem, longest_tail, HasWords}
+use Rattle.s66_time.specs.{Ranking}
 use Rattle.s66_time.specs.Ranks as by_word
 use Rattle.s66_time.proofs.RankOrder.{ranking-same}
-use Rattle.s66_bound.specs.LeastWords.{AreEnds}
-use Rattle.s66_bound.specs.Ranks.{IsRanking}
-use Rattle.s66_bound.specs.TableWords.{HasSingles}
+use Rattle.s66_bound.specs.{AreEnds, IsRanking, HasSingles}
 use Rattle.s66_bound.proofs.tables.Tables.of.Goals as goal
 
 -- the words of the costs are the longest tails of the block
