@@ -1,13 +1,10 @@
 -- Numbers that are smaller at the first place where they differ, and which names a table has.
-use Rattle.std.proofs.Common.{ℕ, zero, suc, ◌<◌, ◌≡◌, ◌⊎◌, List, [], ◌∷◌, ◌++◌, length, take, get_or, map, refl, arith, inl, inr, ap, subst, length-append, Some}
+use Rattle.std.proofs.Common.{ℕ, zero, suc, ◌<◌, ◌≡◌, ◌⊎◌, List, [], ◌∷◌, ◌++◌, length, take, get_or, map, refl, arith, inl, inr, ap, subst, length-append, Some, set}
 use Rattle.std.proofs.lemmas.List.{map-append}
 use Rattle.std.proofs.lemmas.List.Elements.{All-pop}
-use Rattle.std.specs.Prelude.{set}
-use Rattle.s66_isa.specs.Lists.{Among}
-use Rattle.s66_model.specs.Timing.{Problem}
-use Rattle.s66_model.specs.DominatedLeaves.{IsEarlier}
-use Rattle.s66_node.specs.declared.mark_table.MarkEntry.{MarkEntry}
-use Rattle.s66_node.specs.MarkTables.{IsEntry, AreEntries, numbers_of}
+use Rattle.s66_isa.specs.{Among}
+use Rattle.s66_model.specs.{Problem, IsEarlier}
+use Rattle.s66_node.specs.{MarkEntry, IsEntry, AreEntries, numbers_of}
 use Rattle.s66_node.proofs.Leasts.{among-either}
 
 pub earlier-at : (ns ms : List ℕ) (i : ℕ) → take i ns ≡ take i ms → i < length ns → i < length ms → get_or ns i 0 < get_or ms i 0 → IsEarlier ns ms

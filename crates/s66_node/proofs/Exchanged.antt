@@ -1,7 +1,7 @@
 -- Two neighbours of an order that change places: how many pairs stand in reverse then.
 use Rattle.std.proofs.Common.{◌≡◌, ◌≤◌, ◌<◌, ◌+◌, ◌*◌, ◌∷◌, ℕ, zero, suc, cond, List, [], length, get_or, set, swap, nat_lt, arith}
 use Rattle.std.proofs.lemmas.List.Edits.{swap_is}
-use Rattle.s66_node.specs.Reversed.{below, reversed}
+use Rattle.s66_node.specs.{below, reversed}
 
 -- both in each other's place
 pub exchange-below : (n : ℕ) (xs : List ℕ) (i : ℕ) → suc i < length xs →

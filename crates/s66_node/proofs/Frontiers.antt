@@ -1,8 +1,7 @@
 -- A tree that is made leaves a prefix open only if it was not allowed to split it.
 use Rattle.std.proofs.Common.{ℕ, ◌+◌, ◌≤◌, ◌<◌, ◌≡◌, List, [], ◌∷◌, ◌++◌, arith, inl, inr}
-use Rattle.s66_model.specs.Trees.{Vertex, AtTerminal, AtSplit}
-use Rattle.s66_model.specs.Piece.{Terminal, Frontier}
-use Rattle.s66_node.specs.Walking.{IsSpent}
+use Rattle.s66_model.specs.{Vertex, AtTerminal, AtSplit, Terminal, Frontier}
+use Rattle.s66_node.specs.{IsSpent}
 use Rattle.s66_node.proofs.Leasts.{among-either}
 
 module _ (allowance count : ℕ) (lines : List (Vertex Terminal)) (spent : IsSpent allowance count lines) where

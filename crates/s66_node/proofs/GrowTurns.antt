@@ -1,22 +1,10 @@
 -- One turn of `grow`: what it makes of the walk, of the nodes and of the splits to come keeps what is promised of the tree.
 use Rattle.std.proofs.Common.{ℕ, ◌+◌, ◌≤◌, ◌<◌, ◌≡◌, ◌⊎◌, ◌++◌, ◌∷◌, [], List, Option, None, true, get_or, length, length-append, map, inl, inr, refl, sym, ap, ◌∙◌, subst, arith}
-use Rattle.s66_isa.specs.Lists.{Among}
-use Rattle.s66_model.specs.declared.rule.Rule.{Rule}
-use Rattle.s66_model.specs.declared.rule.Rule.TheVariants.{NoneNamed, WrittenEarlier}
-use Rattle.s66_model.specs.Timing.{Problem}
-use Rattle.s66_model.specs.LegalOrder.{IsBeginning, is_ready}
-use Rattle.s66_model.specs.Trees.{Tree, Alone, Vertex, AtTerminal}
-use Rattle.s66_model.specs.Piece.{Terminal, Frontier, Passed}
-use Rattle.s66_isa.specs.Members.{numbers_in}
-use Rattle.s66_node.specs.Walked.{front}
-use Rattle.s66_node.specs.declared.grow.Grown.{Grown}
-use Rattle.s66_node.specs.declared.grow.OpenSplit.{OpenSplit}
-use Rattle.s66_node.specs.declared.grow.Unsplit.{Unsplit}
-use Rattle.s66_node.specs.declared.node.Node.{Node}
+use Rattle.s66_isa.specs.{Among, numbers_in}
+use Rattle.s66_model.specs.{Rule, NoneNamed, WrittenEarlier, Problem, IsBeginning, is_ready, Tree, Alone, Vertex, AtTerminal, Terminal, Frontier, Passed}
+use Rattle.s66_node.specs.{front, Grown, OpenSplit, Unsplit, Node, WholeOrder, Named, named, node_lines, prefixes_over, AreNodes, Span, span, IsDue, IsFound, IsOpen, IsLeast, IsGrown, IsEmpty}
+use Rattle.s66_node.specs.{IsUnsplitPut, IsSplitPut, IsBeingMade, names_of, grown_lines, grown_prefixes, terminal_by}
 use Rattle.s66_node.specs.declared.node.State.TheVariants as state
-use Rattle.s66_node.specs.declared.whole_order.WholeOrder.{WholeOrder}
-use Rattle.s66_node.specs.Nodes.{Named, named, node_lines, prefixes_over, AreNodes}
-use Rattle.s66_node.specs.Walking.{Span, span, IsDue, IsFound, IsOpen, IsLeast, IsGrown, IsEmpty, IsUnsplitPut, IsSplitPut, IsBeingMade, names_of, grown_lines, grown_prefixes, terminal_by}
 use Rattle.s66_node.proofs.Frontiers.{spent-terminal}
 use Rattle.s66_node.proofs.Nodes.{length-prefixes_over}
 use Rattle.s66_node.proofs.Pushing.{found-wider, found-open, root-nodes, root-prefixes, root-lines, terminal-pushed, split-node, split-pushed}

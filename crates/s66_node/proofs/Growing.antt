@@ -1,13 +1,10 @@
 -- The steps of a walk in preorder over the tree that is made: down to a child, to the next sibling, and up.
-use Rattle.std.proofs.Common.{ℕ, ◌-◌, ◌≡◌, List, [], ◌∷◌, ◌++◌, length, take, refl, sym, ap, arith, inl, inr, ◌∙◌, append_assoc, length-append, subst}
-use Rattle.std.proofs.lemmas.List.{append-nil}
-use Rattle.s66_isa.specs.declared.instr.Instr.{Instr}
-use Rattle.s66_isa.specs.Lists.{Among}
-use Rattle.s66_model.specs.LegalOrder.{ready, IsIncomplete}
-use Rattle.s66_model.specs.Trees.{Tree, Alone, Parted, Siblings, NoMore, Unsplit, Split, AtTerminal, AtSplit, SiblingsHold, TreeHolds, flat_siblings, flat, sibling_splits, splits, sibling_values, tree_values, siblings_split_at, split_at}
-use Rattle.s66_node.specs.Walked.{front}
+use Rattle.std.proofs.Common.{ℕ, ◌-◌, ◌≡◌, List, [], ◌∷◌, ◌++◌, length, take, refl, sym, ap, arith, inl, inr, ◌∙◌, append_assoc, length-append, subst, append-nil}
+use Rattle.s66_isa.specs.{Instr, Among}
+use Rattle.s66_model.specs.{ready, IsIncomplete, Tree, Alone, Parted, Siblings, NoMore, Unsplit, Split, AtTerminal, AtSplit, SiblingsHold, TreeHolds, flat_siblings, flat, sibling_splits, splits}
+use Rattle.s66_model.specs.{sibling_values, tree_values, siblings_split_at, split_at}
+use Rattle.s66_node.specs.{front, SiblingsGrow, TreeGrows, RestsGrow, sibling_prefixes, tree_prefixes, flat_rests, rest_prefixes, rest_values, rests_split_at, Part, Grows}
 use Rattle.s66_node.proofs.Leasts.{among-either}
-use Rattle.s66_node.specs.Growing.{SiblingsGrow, TreeGrows, RestsGrow, sibling_prefixes, tree_prefixes, flat_rests, rest_prefixes, rest_values, rests_split_at, Part, Grows}
 
 take-front : (at : List ℕ) (n : ℕ) → take (length at) (at ++ n ∷ []) ≡ at
 take-front [] n = refl

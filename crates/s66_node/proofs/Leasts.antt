@@ -1,11 +1,9 @@
 -- The first of the least of some legal orders, and one more.
 use Rattle.std.proofs.Common.{ℕ, ◌≤◌, ◌<◌, ◌≡◌, List, [], ◌∷◌, ◌++◌, Option, None, Some, refl, sym, ap, arith, inl, inr, ◌∙◌, subst, append_assoc}
-use Rattle.s66_isa.specs.Lists.{Among}
+use Rattle.s66_isa.specs.{Among}
 use Rattle.s66_isa.proofs.Lists.{among-rest}
-use Rattle.s66_model.specs.LegalOrder.{IsLegal}
-use Rattle.s66_model.specs.Timing.{Problem, total_of}
-use Rattle.s66_node.specs.declared.whole_order.WholeOrder.{WholeOrder}
-use Rattle.s66_node.specs.Walking.{IsLeast}
+use Rattle.s66_model.specs.{IsLegal, Problem, total_of}
+use Rattle.s66_node.specs.{WholeOrder, IsLeast}
 
 pub among-either : {X : Type 0} (x : X) (xs ys : List X) (R : Type 0) → (Among x xs → R) → (Among x ys → R) → Among x (xs ++ ys) → R
 among-either x [] ys R f g h = g h

@@ -1,16 +1,13 @@
 -- If a tree splits a prefix, there is a node of this name.
-use Rattle.std.proofs.Common.{ℕ, zero, suc, ◌≤◌, ◌<◌, ◌≡◌, ◌⊎◌, Bool, true, List, [], ◌∷◌, ◌++◌, length, refl, sym, ap, arith, inl, inr, ◌∙◌, subst, append_assoc, length-append}
-use Rattle.std.proofs.lemmas.Bool.{cases_Bool, eq-eqb, ne_eqb}
-use Rattle.std.proofs.lemmas.List.{append-nil}
-use Rattle.std.specs.List.{filter}
-use Rattle.s66_isa.specs.declared.instr.Instr.{Instr}
-use Rattle.s66_isa.specs.Lists.{Among, rising}
+use Rattle.std.proofs.Common.{ℕ, zero, suc, ◌≤◌, ◌<◌, ◌≡◌, ◌⊎◌, Bool, true, List, [], ◌∷◌, ◌++◌, length, refl, sym, ap, arith, inl, inr, ◌∙◌, subst, append_assoc, length-append, eq-eqb, ne_eqb}
+use Rattle.std.proofs.Common.{append-nil, filter}
+use Rattle.std.proofs.lemmas.Bool.{cases_Bool}
+use Rattle.s66_isa.specs.{Instr, Among, rising}
 use Rattle.s66_isa.proofs.Lists.{among-front, among-rest}
-use Rattle.s66_model.specs.LegalOrder.{is_ready, ready}
-use Rattle.s66_model.specs.Trees.{Tree, Alone, Parted, Siblings, NoMore, Unsplit, Split, AtTerminal, SiblingsHold, TreeHolds, flat_siblings, flat, siblings_split_at, split_at}
-use Rattle.s66_model.specs.NodeNames.{sibling_at, node_named, is_node}
-use Rattle.s66_node.proofs.Leasts.{among-either}
+use Rattle.s66_model.specs.{is_ready, ready, Tree, Alone, Parted, Siblings, NoMore, Unsplit, Split, AtTerminal, SiblingsHold, TreeHolds, flat_siblings, flat, siblings_split_at, split_at, sibling_at}
+use Rattle.s66_model.specs.{node_named, is_node}
 use Rattle.s66_model.proofs.LongestChain.{Rises-among}
+use Rattle.s66_node.proofs.Leasts.{among-either}
 
 -- EACH NUMBER COMES ONCE among those that are ready
 

@@ -1,12 +1,8 @@
 -- A list of nodes with one more: its prefix, its line of the tree, and what holds of it.
 use Rattle.std.proofs.Common.{ℕ, zero, suc, ◌+◌, ◌<◌, ◌≡◌, List, [], ◌∷◌, ◌++◌, length, get_or, refl, sym, ap, arith, ◌∙◌, length-append, subst}
-use Rattle.s66_model.specs.Timing.{Problem}
-use Rattle.s66_model.specs.Trees.{Vertex}
-use Rattle.s66_model.specs.Piece.{Terminal}
-use Rattle.s66_node.specs.declared.node.Node.{Node}
-use Rattle.s66_node.specs.declared.node.State.{State}
+use Rattle.s66_model.specs.{Problem, Vertex, Terminal}
+use Rattle.s66_node.specs.{Node, State, prefixes_from, prefixes_over, node_line, Named, no_named, named_at, node_lines, IsNode, NodesFrom, AreNodes}
 use Rattle.s66_node.specs.declared.node.State.TheVariants as state
-use Rattle.s66_node.specs.Nodes.{prefixes_from, prefixes_over, node_line, Named, no_named, named_at, node_lines, IsNode, NodesFrom, AreNodes}
 
 -- LISTS
 

@@ -1,22 +1,12 @@
 -- The tree that was grown is a piece: its splits, its floors, its names and its best order are as promised.
 use Rattle.std.proofs.Common.{ℕ, ◌<◌, ◌≡◌, ◌⊎◌, true, List, length, refl, sym, ap, arith, inl, inr, ◌∙◌, subst}
-use Rattle.s66_isa.specs.Lists.{Among}
-use Rattle.s66_model.specs.declared.rule.Rule.{Rule}
-use Rattle.s66_model.specs.declared.rule.Rule.TheVariants.{NoneNamed, WrittenEarlier, ClampedStanding}
-use Rattle.s66_model.specs.Timing.{Problem}
-use Rattle.s66_model.specs.Trees.{Tree, Alone, AtTerminal, TreeHolds, flat, splits, split_at}
-use Rattle.s66_model.specs.DominatedLeaves.{DominatesByRule}
-use Rattle.s66_model.specs.Piece.{Terminal, Carries, Frontier, Passed, TerminalHolds, IsNamedIn, IsPiece}
-use Rattle.s66_model.specs.Expansion.{TerminalHoldsWhile, IsExpansion}
-use Rattle.s66_model.specs.NodeNames.{node_named, is_node}
-use Rattle.s66_model.specs.Preorder.{read_tree, TreeMatches}
+use Rattle.s66_isa.specs.{Among}
+use Rattle.s66_model.specs.{Rule, NoneNamed, WrittenEarlier, ClampedStanding, Problem, Tree, Alone, AtTerminal, TreeHolds, flat, splits, split_at, DominatesByRule, Terminal, Carries, Frontier, Passed}
+use Rattle.s66_model.specs.{TerminalHolds, IsNamedIn, IsPiece, TerminalHoldsWhile, IsExpansion, node_named, is_node, read_tree, TreeMatches}
 use Rattle.s66_model.proofs.Forests.{read-flat, tree-match}
 use Rattle.s66_model.proofs.TreesHold.{tree-weaken}
-use Rattle.s66_node.specs.declared.grow.Grown.{Grown}
-use Rattle.s66_node.specs.Nodes.{prefixes_over}
-use Rattle.s66_node.specs.Growing.{tree_prefixes}
-use Rattle.s66_node.specs.Pieces.{PieceOf, piece_lines, tree_of, IsBestTimed, IsExpandedPiece, AreTreeNodes, IsKeptPiece}
-use Rattle.s66_node.specs.Walking.{Span, IsDue, IsLeft, IsGrown, NameSplits, names_of}
+use Rattle.s66_node.specs.{Grown, prefixes_over, tree_prefixes, PieceOf, piece_lines, tree_of, IsBestTimed, IsExpandedPiece, AreTreeNodes, IsKeptPiece, Span, IsDue, IsLeft, IsGrown, NameSplits}
+use Rattle.s66_node.specs.{names_of}
 use Rattle.s66_node.proofs.Growing.{tree-holds, tree-splits}
 use Rattle.s66_node.proofs.NamedSplits.{split-node, tree-within}
 use Rattle.s66_node.proofs.Terminals.{IsNamed, passed-name, left-holds, left-while}

@@ -1,19 +1,10 @@
 -- What was found of a prefix becomes a node of the tree that is made.
-use Rattle.std.proofs.Common.{ℕ, true, ◌≤◌, ◌<◌, ◌≡◌, List, [], ◌∷◌, ◌++◌, length, map, get_or, refl, sym, ap, ◌∙◌, subst}
-use Rattle.std.proofs.lemmas.List.{append-nil}
-use Rattle.s66_model.specs.declared.rule.Rule.{Rule}
-use Rattle.s66_model.specs.Timing.{Problem}
-use Rattle.s66_model.specs.Leaves.{floor_value}
-use Rattle.s66_model.specs.LegalOrder.{ready}
-use Rattle.s66_model.specs.Trees.{Vertex, AtTerminal, AtSplit}
-use Rattle.s66_model.specs.Piece.{Terminal, Frontier, Passed}
-use Rattle.s66_node.specs.declared.name.Dominance.{Dominance}
-use Rattle.s66_node.specs.declared.node.Node.{Node}
+use Rattle.std.proofs.Common.{ℕ, true, ◌≤◌, ◌<◌, ◌≡◌, List, [], ◌∷◌, ◌++◌, length, map, get_or, refl, sym, ap, ◌∙◌, subst, append-nil}
+use Rattle.s66_model.specs.{Rule, Problem, floor_value, ready, Vertex, AtTerminal, AtSplit, Terminal, Frontier, Passed}
+use Rattle.s66_node.specs.{Dominance, Node, Unsplit, has_floor, Named, named, named_at, node_line, prefixes_over, node_lines, IsNode, AreNodes, Span, span, IsFound, HasValue, IsPushed, state_by}
+use Rattle.s66_node.specs.{value_by, named_by, terminal_by}
 use Rattle.s66_node.specs.declared.node.State.TheVariants as state
-use Rattle.s66_node.specs.declared.grow.Unsplit.{Unsplit}
 use Rattle.s66_node.specs.declared.grow.Unsplit.TheVariants as unsplit
-use Rattle.s66_node.specs.Nodes.{has_floor, Named, named, named_at, node_line, prefixes_over, node_lines, IsNode, AreNodes}
-use Rattle.s66_node.specs.Walking.{Span, span, IsFound, HasValue, IsPushed, state_by, value_by, named_by, terminal_by}
 use Rattle.s66_node.proofs.Nodes.{ArePushed, are-pushed}
 use Rattle.s66_node.proofs.Terminals.{left-wider}
 

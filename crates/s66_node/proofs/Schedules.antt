@@ -2,11 +2,8 @@
 use Rattle.std.proofs.Common.{ℕ, ◌+◌, ◌-◌, ◌<◌, ◌≤◌, ◌≡◌, true, List, [], ◌∷◌, ◌++◌, length, take, refl, sym, ap, subst, arith, length-append, inl, inr, ◌∙◌}
 use Rattle.std.proofs.lemmas.Bool.{cases_eq}
 use Rattle.std.proofs.lemmas.List.{take-append-le}
-use Rattle.s66_isa.specs.declared.instr.Instr.{Instr}
-use Rattle.s66_isa.specs.Lists.{Among}
-use Rattle.s66_isa.specs.Table.{Row}
-use Rattle.s66_model.specs.Timing.{Problem, row_at, point_of, points_of, next}
-use Rattle.s66_model.specs.LegalOrder.{is_ready, ready, GoesOn, IsBeginning, IsComplete, IsIncomplete}
+use Rattle.s66_isa.specs.{Instr, Among, Row}
+use Rattle.s66_model.specs.{Problem, row_at, point_of, points_of, next, is_ready, ready, GoesOn, IsBeginning, IsComplete, IsIncomplete}
 use Rattle.s66_model.proofs.Beginnings.{beginning-front}
 use Rattle.s66_model.proofs.PointTimes.{points_after-append, point_of-row}
 use Rattle.s66_model.proofs.Remaining.{among-ready, ready-among, legal-parts, rest-first, step-begins}

@@ -1,28 +1,23 @@
 -- A walk is at a beginning of the block's orders, before and after each push and undo.
-use Rattle.std.proofs.Common.{ℕ, ◌+◌, ◌-◌, ◌≤◌, ◌<◌, ◌≡◌, ◌⊎◌, Bool, true, false, not, ◌&&◌, refl, List, [], ◌∷◌, ◌++◌, length, take, get_or, sym, ap, arith, inl, inr, ◌∙◌, length-append, subst, eqb, ◌||◌}
-use Rattle.std.proofs.lemmas.Bool.{cases_eq, eq-eqb, ne_eqb, or_left}
-use Rattle.std.proofs.lemmas.List.{take_more, take_all, take-append-le}
+use Rattle.std.proofs.Common.{ℕ, ◌+◌, ◌-◌, ◌≤◌, ◌<◌, ◌≡◌, ◌⊎◌, Bool, true, false, not, ◌&&◌, refl, List, [], ◌∷◌, ◌++◌, length, take, get_or, sym, ap, arith, inl, inr, ◌∙◌, length-append, subst, eqb}
+use Rattle.std.proofs.Common.{◌||◌, eq-eqb, ne_eqb, take_all}
+use Rattle.std.proofs.lemmas.Bool.{cases_eq, or_left}
+use Rattle.std.proofs.lemmas.List.{take_more, take-append-le}
 use Rattle.std.proofs.Math.Bool.{or-false}
-use Rattle.s66_isa.specs.declared.instr.Instr.{Instr}
-use Rattle.s66_line.specs.Blocks.{instrs_of}
-use Rattle.s66_isa.specs.declared.limits.TheConstants.{BLOCK_LIMIT}
-use Rattle.s66_model.specs.Timing.{Problem}
-use Rattle.s66_model.specs.Tails.{longest_tail}
-use Rattle.s66_isa.specs.Lists.{has}
-use Rattle.s66_model.specs.LegalOrder.{IsBeginning, IsFront, IsIncomplete, is_ready, ready}
-use Rattle.s66_model.specs.Dependence.{all_needs}
+use Rattle.s66_isa.specs.{Instr, BLOCK_LIMIT, has, Set, numbers_in}
+use Rattle.s66_model.specs.{Problem, longest_tail, IsBeginning, IsFront, IsIncomplete, is_ready, ready, all_needs}
 use Rattle.s66_model.proofs.LegalOrders.{ready-parts, has-push, GoesOn-append}
 use Rattle.s66_model.proofs.Remaining.{step-begins}
 use Rattle.s66_model.proofs.Beginnings.{front-beginning, beginning-front}
+use Rattle.s66_line.specs.{instrs_of}
+use Rattle.s66_time.specs.Ticking.{Ticking}
+use Rattle.s66_time.specs.{problem_of}
 use Rattle.s66_time.proofs.LongestBeginning.{beginning-few, front-take, push-ready}
-use Rattle.s66_isa.specs.declared.set.Set.{Set}
-use Rattle.s66_isa.specs.Members.{numbers_in}
 use Rattle.s66_time.proofs.Opened.{count-needs}
 use Rattle.s66_time.proofs.RankOrder.{ranks-same, ranks-with, ranks-without}
-use Rattle.s66_time.specs.Ticking.{Ticking, problem_of}
-use Rattle.s66_bound.specs.Ranks.{rank, AreRanksLeft}
-use Rattle.s66_node.specs.declared.walk.ReadyFront.{ReadyFront}
-use Rattle.s66_node.specs.Walked.{Walked, IsWalked, IsReadyFront}
+use Rattle.s66_bound.specs.{rank, AreRanksLeft}
+use Rattle.s66_node.specs.{ReadyFront, IsWalked, IsReadyFront}
+use Rattle.s66_node.specs.Walked.{Walked}
 
 -- each number of a beginning is ready after those before it
 pub ready-at : (block : List Instr) (ns : List ℕ) (i : ℕ) → IsBeginning block ns → i < length ns → is_ready block (take i ns) (get_or ns i 0) ≡ true

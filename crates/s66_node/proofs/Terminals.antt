@@ -1,21 +1,12 @@
 -- How a prefix is left that isn't split, by its floor.
-use Rattle.std.proofs.Common.{ℕ, ◌≤◌, ◌≡◌, ◌≢◌, Bool, true, false, nat_lt, ◌&&◌, List, [], ◌∷◌, ◌++◌, length, refl, sym, ap, arith, inl, inr, ◌∙◌, subst, Option}
+use Rattle.std.proofs.Common.{ℕ, ◌≤◌, ◌≡◌, ◌≢◌, Bool, true, false, nat_lt, ◌&&◌, List, [], ◌∷◌, ◌++◌, length, refl, sym, ap, arith, inl, inr, ◌∙◌, subst, Option, append-nil}
 use Rattle.std.proofs.lemmas.Bool.{cases_Bool}
-use Rattle.std.proofs.lemmas.List.{append-nil}
-use Rattle.s66_isa.specs.Lists.{every}
-use Rattle.s66_model.specs.declared.rule.Rule.{Rule}
-use Rattle.s66_model.specs.declared.rule.Rule.TheVariants.{NoneNamed}
-use Rattle.s66_model.specs.Timing.{Problem}
-use Rattle.s66_model.specs.LegalOrder.{IsBeginning, IsComplete, IsLegal}
-use Rattle.s66_model.specs.Leaves.{Leaf, Whole, Chain, Load, Parcels, value, longest_chain, first_greatest, after_chain, floor}
-use Rattle.s66_model.specs.Piece.{Terminal, Carries, Frontier, Passed, TerminalHolds, IsNamedIn}
-use Rattle.s66_model.specs.Expansion.{TerminalHoldsWhile, whole_at}
-use Rattle.s66_model.specs.Trees.{Tree}
+use Rattle.s66_isa.specs.{every}
+use Rattle.s66_model.specs.{Rule, NoneNamed, Problem, IsBeginning, IsComplete, IsLegal, Leaf, Whole, Chain, Load, Parcels, value, longest_chain, first_greatest, after_chain, floor, Terminal, Carries}
+use Rattle.s66_model.specs.{Frontier, Passed, TerminalHolds, IsNamedIn, TerminalHoldsWhile, whole_at, Tree}
 use Rattle.s66_model.proofs.LegalOrders.{order-legal}
 use Rattle.s66_model.proofs.Floors.{floor-part, floor-whole}
-use Rattle.s66_node.specs.declared.whole_order.WholeOrder.{WholeOrder}
-use Rattle.s66_node.specs.Walking.{Span, span, IsLeft, IsFound, IsLeast, terminal_by}
-use Rattle.s66_node.specs.declared.grow.Unsplit.{Unsplit}
+use Rattle.s66_node.specs.{WholeOrder, Span, span, IsLeft, IsFound, IsLeast, terminal_by, Unsplit}
 use Rattle.s66_node.specs.declared.grow.Unsplit.TheVariants as unsplit
 
 -- THE FLOOR OF AN INCOMPLETE PREFIX is no whole order

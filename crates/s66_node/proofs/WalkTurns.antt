@@ -1,25 +1,15 @@
 -- One turn of a walk over the tree that is made, by what is then still to come.
-use Rattle.std.proofs.Common.{ℕ, ◌+◌, ◌-◌, ◌*◌, ◌≤◌, ◌<◌, ◌≡◌, ◌==◌, ◌⊎◌, true, false, get_or, reverse, List, [], ◌∷◌, ◌++◌, length, map, refl, sym, ap, arith, inl, inr, ◌∙◌, length-append, subst, Option, None, eqb-true}
-use Rattle.std.proofs.lemmas.List.{reverse-append, length-take}
-use Rattle.s66_isa.specs.declared.limits.TheConstants.{BLOCK_LIMIT}
-use Rattle.s66_isa.specs.Lists.{Among, weigh}
+use Rattle.std.proofs.Common.{ℕ, ◌+◌, ◌-◌, ◌*◌, ◌≤◌, ◌<◌, ◌≡◌, ◌==◌, ◌⊎◌, true, false, get_or, reverse, List, [], ◌∷◌, ◌++◌, length, map, refl, sym, ap, arith, inl, inr, ◌∙◌, length-append, subst}
+use Rattle.std.proofs.Common.{Option, None, eqb-true, length-take}
+use Rattle.std.proofs.lemmas.List.{reverse-append}
+use Rattle.s66_isa.specs.{BLOCK_LIMIT, Among, weigh, numbers_in}
 use Rattle.s66_isa.proofs.Lists.{weigh-append, among-front, among-rest}
-use Rattle.s66_model.specs.declared.rule.Rule.{Rule}
-use Rattle.s66_model.specs.declared.rule.Rule.TheVariants.{WrittenEarlier}
-use Rattle.s66_model.specs.Timing.{Problem}
-use Rattle.s66_model.specs.LegalOrder.{IsBeginning, is_ready, ready}
-use Rattle.s66_model.specs.Trees.{Tree, Alone, Parted, Vertex, AtTerminal, AtSplit, TreeHolds, flat, splits, split_at, tree_values}
-use Rattle.s66_model.proofs.Remaining.{step-begins, ready-among}
-use Rattle.s66_isa.specs.Members.{numbers_in}
 use Rattle.s66_isa.proofs.Sets.{numbers_in-few}
+use Rattle.s66_model.specs.{Rule, WrittenEarlier, Problem, IsBeginning, is_ready, ready, Tree, Alone, Parted, Vertex, AtTerminal, AtSplit, TreeHolds, flat, splits, split_at, tree_values, Terminal}
+use Rattle.s66_model.specs.{Frontier, Passed, whole_at}
+use Rattle.s66_model.proofs.Remaining.{step-begins, ready-among}
 use Rattle.s66_time.proofs.LongestBeginning.{beginning-few}
-use Rattle.s66_node.specs.declared.whole_order.WholeOrder.{WholeOrder}
-use Rattle.s66_node.specs.Walked.{front}
-use Rattle.s66_node.specs.Growing.{TreeGrows, tree_prefixes}
-use Rattle.s66_model.specs.Piece.{Terminal, Frontier, Passed}
-use Rattle.s66_model.specs.Expansion.{whole_at}
-use Rattle.s66_node.specs.declared.grow.OpenSplit.{OpenSplit}
-use Rattle.s66_node.specs.Walking.{Span, AreOpen, FramesStand, IsDue, IsLeft, IsKnown, IsLeast, IsBeingMade, GrowsFor, AreOfSplits, NameSplits, lefts}
+use Rattle.s66_node.specs.{WholeOrder, front, TreeGrows, tree_prefixes, OpenSplit, Span, AreOpen, FramesStand, IsDue, IsLeft, IsKnown, IsLeast, IsBeingMade, GrowsFor, AreOfSplits, NameSplits, lefts}
 use Rattle.s66_node.proofs.Nodes.{get_or-front, get_or-last}
 use Rattle.s66_node.proofs.Frontiers.{spent-split, spent-terminal}
 use Rattle.s66_node.proofs.Leasts.{among-either}

@@ -1,8 +1,7 @@
 -- Used by contracts within the crate alone: trees while they are made in preorder: what still has to come, and what the whole will then be.
 use Rattle.std.specs.Prelude.{ℕ, ◌≡◌, List, [], ◌∷◌, ◌++◌}
-use Rattle.s66_isa.specs.declared.instr.Instr.{Instr}
-use Rattle.s66_model.specs.LegalOrder.{ready}
-use Rattle.s66_model.specs.Trees.{Tree, Alone, Parted, Siblings, NoMore, Unsplit, Split, Vertex, flat_siblings, flat, sibling_values, tree_values, siblings_split_at, split_at}
+use Rattle.s66_isa.specs.{Instr}
+use Rattle.s66_model.specs.{ready, Tree, Alone, Parted, Siblings, NoMore, Unsplit, Split, Vertex, flat_siblings, flat, sibling_values, tree_values, siblings_split_at, split_at}
 use Rattle.s66_node.specs.Walked.{front}
 
 -- Each split has exactly the ready numbers, and P holds of its prefix; Q holds at each prefix that isn't split, of its terminal.

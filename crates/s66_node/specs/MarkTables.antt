@@ -1,12 +1,8 @@
 -- Used by contracts: what they see of a table of marks, and what is true of each of its entries.
-use Rattle.std.specs.Prelude.{ℕ, ◌≡◌, ◌≤◌, List, length}
-use Rattle.std.specs.List.{All}
-use Rattle.s66_isa.specs.Members.{numbers_in}
-use Rattle.s66_isa.specs.Lists.{has}
-use Rattle.s66_model.specs.Timing.{Problem}
-use Rattle.s66_time.specs.Marks.{IsMarkOf}
-use Rattle.s66_time.specs.declared.mark.Mark.{Mark}
-use Rattle.s66_isa.specs.declared.set.Set.{Set}
+use Rattle.std.specs.Prelude.{ℕ, ◌≡◌, ◌≤◌, List, length, All}
+use Rattle.s66_isa.specs.{numbers_in, has, Set}
+use Rattle.s66_model.specs.{Problem}
+use Rattle.s66_time.specs.{IsMarkOf, Mark}
 use Rattle.s66_node.specs.declared.mark_table.MarkEntry.{MarkEntry}
 use Rattle.s66_node.specs.declared.mark_table.TheConstants.{TABLE_LIMIT}
 

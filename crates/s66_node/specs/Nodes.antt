@@ -1,10 +1,6 @@
 -- Used by contracts: nodes: their states, their prefixes, and the lines of a tree that they are.
 use Rattle.std.specs.Prelude.{ℕ, ◌≡◌, ◌<◌, ◌≤◌, Bool, true, false, List, [], ◌∷◌, ◌++◌, length, get_or}
-use Rattle.s66_model.specs.Timing.{Problem}
-use Rattle.s66_model.specs.LegalOrder.{ready}
-use Rattle.s66_model.specs.Leaves.{floor, floor_value}
-use Rattle.s66_model.specs.Trees.{Vertex, AtTerminal, AtSplit}
-use Rattle.s66_model.specs.Piece.{Terminal, Carries, Frontier, Passed}
+use Rattle.s66_model.specs.{Problem, ready, floor, floor_value, Vertex, AtTerminal, AtSplit, Terminal, Carries, Frontier, Passed}
 use Rattle.s66_node.specs.declared.node.Node.{Node}
 use Rattle.s66_node.specs.declared.node.State.{State}
 use Rattle.s66_node.specs.declared.node.State.TheVariants as state

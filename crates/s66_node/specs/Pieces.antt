@@ -1,11 +1,6 @@
 -- Used by contracts: what they see of a piece.
 use Rattle.std.specs.Prelude.{ℕ, ◌≡◌, List, Option, None, Some}
-use Rattle.s66_model.specs.declared.rule.Rule.{Rule}
-use Rattle.s66_model.specs.Timing.{Problem}
-use Rattle.s66_model.specs.Trees.{Tree, Vertex, flat, splits}
-use Rattle.s66_model.specs.Preorder.{read_tree}
-use Rattle.s66_model.specs.Piece.{Terminal, Frontier, IsPiece}
-use Rattle.s66_model.specs.Expansion.{IsBestWhole, IsExpansion}
+use Rattle.s66_model.specs.{Rule, Problem, Tree, Vertex, flat, splits, read_tree, Terminal, Frontier, IsPiece, IsBestWhole, IsExpansion}
 use Rattle.s66_time.specs.TimedOrder.{TimedOrder}
 use Rattle.s66_node.specs.declared.node.Node.{Node}
 use Rattle.s66_node.specs.Nodes.{Named, prefixes_over, node_lines, AreNodes}

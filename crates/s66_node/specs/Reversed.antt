@@ -1,6 +1,6 @@
 -- Used by contracts: how far an order is from the source order: how many pairs of it stand in reverse.
 use Rattle.std.specs.Prelude.{ℕ, ◌+◌, List, [], ◌∷◌, nat_lt}
-use Rattle.s66_isa.specs.Lists.{tally}
+use Rattle.s66_isa.specs.{tally}
 
 -- how many of these numbers are below this one
 abbrev pub below : ℕ → List ℕ → ℕ

@@ -1,16 +1,11 @@
 -- Used by contracts: what they see of a walk: what is timed, and the prefix at which it stands.
 use Rattle.std.specs.Prelude.{ℕ, ◌-◌, ◌≡◌, ◌≤◌, List, length, take}
-use Rattle.s66_isa.specs.declared.instr.Instr.{Instr}
-use Rattle.s66_isa.specs.declared.limits.TheConstants.{BLOCK_LIMIT}
-use Rattle.s66_isa.specs.Lists.{has}
-use Rattle.s66_line.specs.Blocks.{instrs_of}
-use Rattle.s66_model.specs.Dependence.{all_needs}
-use Rattle.s66_model.specs.LegalOrder.{IsBeginning, ready}
-use Rattle.s66_model.specs.Timing.{Problem}
-use Rattle.s66_isa.specs.declared.set.Set.{Set}
-use Rattle.s66_isa.specs.Members.{numbers_in}
-use Rattle.s66_time.specs.Ticking.{Ticking, problem_of}
-use Rattle.s66_bound.specs.Ranks.{AreRanksLeft}
+use Rattle.s66_isa.specs.{Instr, BLOCK_LIMIT, has, Set, numbers_in}
+use Rattle.s66_model.specs.{all_needs, IsBeginning, ready, Problem}
+use Rattle.s66_line.specs.{instrs_of}
+use Rattle.s66_time.specs.Ticking.{Ticking}
+use Rattle.s66_time.specs.{problem_of}
+use Rattle.s66_bound.specs.{AreRanksLeft}
 use Rattle.s66_node.specs.declared.walk.ReadyFront.{ReadyFront}
 
 pub record Walked : Type 0 where

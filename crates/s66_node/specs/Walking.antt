@@ -1,17 +1,8 @@
 -- Used by contracts within the crate alone: what holds while an expansion makes its tree, and of the tree when it is made.
 use Rattle.std.specs.Prelude.{ℕ, ◌+◌, ◌≡◌, ◌<◌, ◌≤◌, ◌⊎◌, ◌++◌, true, List, [], ◌∷◌, length, map, reverse, get_or, Option, None, Some}
-use Rattle.s66_isa.specs.declared.instr.Instr.{Instr}
-use Rattle.s66_isa.specs.Lists.{Among}
-use Rattle.s66_model.specs.declared.rule.Rule.{Rule}
-use Rattle.s66_model.specs.declared.rule.Rule.TheVariants.{WrittenEarlier}
-use Rattle.s66_model.specs.Timing.{Problem, total_of}
-use Rattle.s66_model.specs.LegalOrder.{IsBeginning, IsComplete, IsIncomplete, IsLegal, is_ready, ready}
-use Rattle.s66_model.specs.Leaves.{floor, floor_value}
-use Rattle.s66_model.specs.Trees.{Tree, Alone, Vertex, AtTerminal, flat, splits, split_at, tree_values}
-use Rattle.s66_model.specs.DominatedLeaves.{DominatesByRule}
-use Rattle.s66_model.specs.Piece.{Terminal, Carries, Frontier, Passed}
-use Rattle.s66_model.specs.Expansion.{whole_at}
-use Rattle.s66_isa.specs.Members.{numbers_in}
+use Rattle.s66_isa.specs.{Instr, Among, numbers_in}
+use Rattle.s66_model.specs.{Rule, WrittenEarlier, Problem, total_of, IsBeginning, IsComplete, IsIncomplete, IsLegal, is_ready, ready, floor, floor_value, Tree, Alone, Vertex, AtTerminal, flat, splits}
+use Rattle.s66_model.specs.{split_at, tree_values, DominatesByRule, Terminal, Carries, Frontier, Passed, whole_at}
 use Rattle.s66_node.specs.Walked.{front}
 use Rattle.s66_node.specs.Growing.{TreeGrows, Grows, tree_prefixes}
 use Rattle.s66_node.specs.Nodes.{Named, named, named_at, prefixes_over, node_lines, AreNodes}

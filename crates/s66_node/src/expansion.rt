@@ -1,15 +1,10 @@
 //! The expansion of a prefix (`Walk::expand`): from a prefix to a piece over it, with or without dominated leaves. The loop itself is
 //! in `grow.rt`.
 
-ghost use Rattle.std.specs.Prelude.{◌≡◌, ℕ, List, IfOk};
-ghost use Rattle.std.specs.Option.{option_map};
-ghost use Rattle.s66_line.specs.Blocks.{instrs_of};
-ghost use Rattle.s66_model.specs.Timing.{Problem};
-ghost use Rattle.s66_model.specs.Trees.{Tree};
-ghost use Rattle.s66_model.specs.Piece.{Terminal};
-ghost use Rattle.s66_model.specs.Expansion.{whole_orders};
-ghost use Rattle.s66_node.specs.Pieces.{IsBestTimed};
-ghost use Rattle.s66_node.specs.Walking.{IsLeast};
+ghost use Rattle.std.specs.Prelude.{◌≡◌, ℕ, List, IfOk, option_map};
+ghost use Rattle.s66_model.specs.{Problem, Tree, Terminal, whole_orders};
+ghost use Rattle.s66_line.specs.{instrs_of};
+ghost use Rattle.s66_node.specs.{IsBestTimed, IsLeast};
 
 use crate::grow::{Grown, grow};
 use crate::least::Least;
@@ -47,9 +42,8 @@ fn timed_of(
 
 impl Walk<'_> {
     ghost use Rattle.std.specs.Prelude.{◌≡◌, ◌≤◌, [], IfOk};
-    ghost use Rattle.s66_model.specs.declared.rule.Rule.TheVariants.{NoneNamed, WrittenEarlier};
-    ghost use Rattle.s66_model.specs.LegalOrder.{IsBeginning};
-    ghost use Rattle.s66_node.specs.Pieces.{IsExpandedPiece};
+    ghost use Rattle.s66_model.specs.{NoneNamed, WrittenEarlier, IsBeginning};
+    ghost use Rattle.s66_node.specs.{IsExpandedPiece};
 
     /// Goes to a prefix and expands it by branch and bound: a tree over it with at most `allowance` splits, made depth first by rising
     /// number. The best time may fall meanwhile: it is read at the prefix, and before each split below it. Times are in minor cycles.

@@ -5,13 +5,9 @@
 //! allowance lasts, and stays open after that.
 
 ghost use Rattle.std.specs.Prelude.{◌≡◌, ◌≤◌, ◌++◌, ◌⊎◌, [], ℕ, List, IfOk, OnOk, IfSome, IfNone, IsTrue};
-ghost use Rattle.s66_isa.specs.Lists.{Among};
-ghost use Rattle.s66_model.specs.declared.rule.Rule.TheVariants.{NoneNamed, WrittenEarlier};
-ghost use Rattle.s66_model.specs.Leaves.{floor_value};
-ghost use Rattle.s66_model.specs.Trees.{Tree};
-ghost use Rattle.s66_model.specs.Piece.{Terminal};
-ghost use Rattle.s66_model.specs.Expansion.{whole_at};
-ghost use Rattle.s66_node.specs.Walking.{Span, span, IsDue, IsFound, IsOpen, IsLeast, IsGrown, IsEmpty, IsValued, terminal_by};
+ghost use Rattle.s66_isa.specs.{Among};
+ghost use Rattle.s66_model.specs.{NoneNamed, WrittenEarlier, floor_value, Tree, Terminal, whole_at};
+ghost use Rattle.s66_node.specs.{Span, span, IsDue, IsFound, IsOpen, IsLeast, IsGrown, IsEmpty, IsValued, terminal_by};
 
 use crate::least::Least;
 use crate::name::{Dominance, Name};
@@ -51,7 +47,7 @@ pub(crate) enum Unsplit {
 
 impl Unsplit {
     ghost use Rattle.std.specs.Prelude.{◌≡◌};
-    ghost use Rattle.s66_node.specs.Walking.{state_by};
+    ghost use Rattle.s66_node.specs.{state_by};
 
     /// The state of its node.
     fn state(&self) -> State
@@ -209,7 +205,7 @@ fn keep_whole(least: &mut Option<WholeOrder>, walk: &Walk<'_>, unsplit: &Unsplit
 
 impl Grown {
     ghost use Rattle.std.specs.Prelude.{◌≡◌, ◌+◌, ◌<◌, ◌^◌, IfOk, OnOk};
-    ghost use Rattle.s66_node.specs.Walking.{IsEmpty, IsUnsplitPut, IsSplitPut};
+    ghost use Rattle.s66_node.specs.{IsEmpty, IsUnsplitPut, IsSplitPut};
 
     /// No node yet.
     pub(crate) fn empty(alloc: Global) -> Grown

@@ -6,15 +6,10 @@
 //! (`s66_model`).
 
 ghost use Rattle.std.specs.Prelude.{ℕ, ◌≤◌, ◌<◌, ◌≡◌, ◌⊎◌, IsTrue, List, length, map};
-ghost use Rattle.s66_isa.specs.Lists.{Among};
-ghost use Rattle.s66_model.specs.Timing.{Problem};
-ghost use Rattle.s66_model.specs.LegalOrder.{IsIncomplete};
-ghost use Rattle.s66_model.specs.Dominance.{IsSameSet};
-ghost use Rattle.s66_model.specs.DominatedLeaves.{IsEarlier, DominatesByRule};
-ghost use Rattle.s66_time.specs.Marks.{IsMarkOf};
-ghost use Rattle.s66_isa.specs.declared.limits.TheConstants.{BLOCK_LIMIT};
-ghost use Rattle.s66_node.specs.MarkTables.{IsEntry, AreEntries, numbers_of};
-ghost use Rattle.s66_node.specs.declared.mark_table.TheConstants.{TABLE_LIMIT};
+ghost use Rattle.s66_isa.specs.{Among, BLOCK_LIMIT};
+ghost use Rattle.s66_model.specs.{Problem, IsIncomplete, IsSameSet, IsEarlier, DominatesByRule};
+ghost use Rattle.s66_time.specs.{IsMarkOf};
+ghost use Rattle.s66_node.specs.{IsEntry, AreEntries, numbers_of, TABLE_LIMIT};
 
 use crate::chains::{Chains, NONE};
 use crate::name::{Name, NodePlace};
@@ -72,7 +67,7 @@ pub struct MarkTable<'a> {
 
 impl<'a> Model for MarkTable<'a> {
     ghost use Rattle.std.specs.Prelude.{map};
-    ghost use Rattle.s66_line.specs.Blocks.{instrs_of};
+    ghost use Rattle.s66_line.specs.{instrs_of};
     ghost use Rattle.s66_node.specs.MarkTables.{MarkTable, AreEntries, numbers_of};
 
     ghost Value = { MarkTable };
@@ -253,10 +248,9 @@ fn remove_lines(
 
 impl MarkEntry {
     ghost use Rattle.std.specs.Prelude.{ℕ, ◌≡◌};
-    ghost use Rattle.s66_isa.specs.Members.{numbers_in};
-    ghost use Rattle.s66_isa.specs.Lists.{has};
-    ghost use Rattle.s66_time.specs.Marks.{IsMarkOf};
-    ghost use Rattle.s66_node.specs.MarkTables.{IsEntry, numbers_of};
+    ghost use Rattle.s66_isa.specs.{numbers_in, has};
+    ghost use Rattle.s66_time.specs.{IsMarkOf};
+    ghost use Rattle.s66_node.specs.{IsEntry, numbers_of};
 
     /// That of a walk's prefix, by the set of its numbers and its mark.
     pub fn of(walk: &Walk<'_>, pushed: &Set, mark: &Mark) -> MarkEntry
@@ -280,14 +274,11 @@ impl MarkEntry {
 
 impl<'a> MarkTable<'a> {
     ghost use Rattle.std.specs.Prelude.{ℕ, ◌≡◌, ◌⊎◌, ◌++◌, [], ◌∷◌, List, IfOk, IfSome, IfNone, IsTrue};
-    ghost use Rattle.s66_isa.specs.Members.{numbers_in};
-    ghost use Rattle.s66_isa.specs.Lists.{Among, has};
-    ghost use Rattle.s66_time.specs.Marks.{IsMarkOf};
-    ghost use Rattle.s66_line.specs.Blocks.{instrs_of};
-    ghost use Rattle.s66_model.specs.declared.rule.Rule.TheVariants.{WrittenEarlier};
-    ghost use Rattle.s66_model.specs.LegalOrder.{IsIncomplete};
-    ghost use Rattle.s66_model.specs.DominatedLeaves.{DominatesByRule};
-    ghost use Rattle.s66_node.specs.MarkTables.{IsEntry, numbers_of};
+    ghost use Rattle.s66_isa.specs.{numbers_in, Among, has};
+    ghost use Rattle.s66_time.specs.{IsMarkOf};
+    ghost use Rattle.s66_line.specs.{instrs_of};
+    ghost use Rattle.s66_model.specs.{WrittenEarlier, IsIncomplete, DominatesByRule};
+    ghost use Rattle.s66_node.specs.{IsEntry, numbers_of};
 
     /// No mark.
     pub fn new(alloc: Global, block: &'a Block<'a>, profile: &Profile) -> MarkTable<'a>
@@ -522,8 +513,6 @@ impl<'a> MarkTable<'a> {
 }
 
 impl Naming for MarkTable<'_> {
-    ghost use Rattle.std.specs.Prelude.{◌≡◌};
-
     ghost suits = { λ marks b. marks.problem ≡ b };
 
     ghost names = { λ marks. marks.names };

@@ -1,5 +1,8 @@
 //! The name of a dominated leaf: the numbers of the node that dominates it, and a guess of where that node is.
 
+ghost use Rattle.std.specs.Prelude.{◌≡◌, ◌≤◌, IfOk, length};
+ghost use Rattle.s66_isa.specs.{BLOCK_LIMIT};
+
 use crate::whole_order::copy_of;
 use arrayvec::ArrayVec;
 use s66_isa::BLOCK_LIMIT;
@@ -36,9 +39,6 @@ pub struct Name {
 }
 
 impl Name {
-    ghost use Rattle.std.specs.Prelude.{◌≡◌, ◌≤◌, IfOk, length};
-    ghost use Rattle.s66_isa.specs.declared.limits.TheConstants.{BLOCK_LIMIT};
-
     /// The node with these numbers, which may be found there.
     pub fn new(alloc: Global, numbers: &[u8], place: NodePlace) -> Result<Box<Name>, AllocError>
         requires { length numbers.now ≤ BLOCK_LIMIT }

@@ -1,5 +1,9 @@
 //! What an expansion asks for nodes that dominate a prefix (`Naming`): a table of marks, or several that workers share.
 
+ghost use Rattle.std.specs.Prelude.{ℕ, List, ◌≡◌, ◌⊎◌, IfOk, IfSome, IsTrue, []};
+ghost use Rattle.s66_isa.specs.{Among};
+ghost use Rattle.s66_model.specs.{WrittenEarlier, Problem, IsIncomplete, DominatesByRule};
+
 use crate::name::Name;
 use crate::node::State;
 use crate::walk::Walk;
@@ -9,13 +13,6 @@ use std::boxed::Box;
 
 /// What knows nodes that dominate others, while a tree is made.
 pub trait Naming {
-    ghost use Rattle.std.specs.Prelude.{ℕ, List, ◌≡◌, ◌⊎◌, IfOk, IfSome, IsTrue};
-    ghost use Rattle.s66_isa.specs.Lists.{Among};
-    ghost use Rattle.s66_model.specs.declared.rule.Rule.TheVariants.{WrittenEarlier};
-    ghost use Rattle.s66_model.specs.Timing.{Problem};
-    ghost use Rattle.s66_model.specs.LegalOrder.{IsIncomplete};
-    ghost use Rattle.s66_model.specs.DominatedLeaves.{DominatesByRule};
-
     // it may be asked about prefixes of this problem
     ghost suits: { Self → Problem → Type 0 };
 
@@ -61,8 +58,6 @@ pub trait Naming {
 pub(crate) struct NoNames;
 
 impl Naming for NoNames {
-    ghost use Rattle.std.specs.Prelude.{[]};
-
     ghost suits = { λ _ _. Unit {0} };
 
     ghost names = { λ _. [] };

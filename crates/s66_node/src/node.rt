@@ -14,7 +14,7 @@ pub enum State {
 
 impl State {
     ghost use Rattle.std.specs.Prelude.{◌≡◌};
-    ghost use Rattle.s66_node.specs.Nodes.{is_stored_open, is_stored_live};
+    ghost use Rattle.s66_node.specs.{is_stored_open, is_stored_live};
 
     /// Whether it can be claimed.
     pub fn is_open(self) -> bool
@@ -52,7 +52,7 @@ pub struct Node {
 
 impl Node {
     ghost use Rattle.std.specs.Prelude.{◌≡◌};
-    ghost use Rattle.s66_node.specs.declared.node.Node.{Node};
+    ghost use Rattle.s66_node.specs.{Node};
 
     /// A node in the state in which it is made.
     pub fn new(parent: u32, number: u8, depth: u8, value: u32, state: State) -> Node

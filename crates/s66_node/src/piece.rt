@@ -33,8 +33,7 @@ pub struct Piece {
 }
 
 impl Model for Piece {
-    ghost use Rattle.std.specs.Prelude.{map};
-    ghost use Rattle.std.specs.Option.{option_map};
+    ghost use Rattle.std.specs.Prelude.{map, option_map};
     ghost use Rattle.s66_node.specs.Nodes.{named};
     ghost use Rattle.s66_node.specs.Pieces.{PieceOf, IsKeptPiece};
 
@@ -49,13 +48,11 @@ impl Model for Piece {
 }
 
 impl Piece {
-    ghost use Rattle.std.specs.Prelude.{◌≡◌, ◌≤◌, ◌↔◌, IsTrue, length, map};
-    ghost use Rattle.s66_isa.specs.declared.limits.TheConstants.{BLOCK_LIMIT};
-    ghost use Rattle.std.specs.Option.{option_copied};
-    ghost use Rattle.s66_line.specs.Blocks.{instrs_of};
-    ghost use Rattle.s66_model.specs.Trees.{splits};
-    ghost use Rattle.s66_node.specs.Nodes.{named};
-    ghost use Rattle.s66_node.specs.Pieces.{tree_of, IsBestTimed, AreTreeNodes};
+    ghost use Rattle.std.specs.Prelude.{◌≡◌, ◌≤◌, ◌↔◌, IsTrue, length, map, option_copied};
+    ghost use Rattle.s66_isa.specs.{BLOCK_LIMIT};
+    ghost use Rattle.s66_line.specs.{instrs_of};
+    ghost use Rattle.s66_model.specs.{splits};
+    ghost use Rattle.s66_node.specs.{named, tree_of, IsBestTimed, AreTreeNodes};
 
     /// Whether it is of this block under this profile, in time linear in the block's length.
     pub fn is_of(&self, block: &Block, profile: &Profile) -> bool

@@ -2,8 +2,7 @@
 //! of equal ones that with the longest tail. It is the usual heuristic of instruction schedulers, by critical path.
 
 ghost use Rattle.std.specs.Prelude.{◌≡◌, ◌≤◌, ◌<◌, true, [], length, take, IfSome, IfNone};
-ghost use Rattle.s66_model.specs.LegalOrder.{is_ready, ready, IsComplete};
-ghost use Rattle.s66_model.specs.Timing.{total_of};
+ghost use Rattle.s66_model.specs.{is_ready, ready, IsComplete, total_of};
 
 use crate::walk::Walk;
 use s66_isa::{BLOCK_LIMIT, Reg};
@@ -97,9 +96,6 @@ fn first_ready(walk: &mut Walk<'_>, priority: Priority) -> Option<u8>
 }
 
 impl Walk<'_> {
-    ghost use Rattle.std.specs.Prelude.{◌≡◌};
-    ghost use Rattle.s66_model.specs.LegalOrder.{IsComplete};
-
     /// The whole order at which it stands, with its times, in time quadratic in the block's length.
     pub fn timed(&self) -> Timed
         requires { IsComplete self.now.problem.block self.now.numbers }

@@ -53,7 +53,7 @@ pub struct Walk<'a> {
 }
 
 impl<'a> Model for Walk<'a> {
-    ghost use Rattle.s66_time.specs.Ticking.{problem_of};
+    ghost use Rattle.s66_time.specs.{problem_of};
     ghost use Rattle.s66_node.specs.Walked.{Walked, IsWalked};
 
     ghost Value = { Walked };
@@ -65,18 +65,12 @@ impl<'a> Model for Walk<'a> {
 
 impl<'a> Walk<'a> {
     ghost use Rattle.std.specs.Prelude.{◌≡◌, ◌<◌, ◌≤◌, ◌↔◌, ◌⊎◌, ◌++◌, [], ◌∷◌, true, IsTrue, length, take};
-    ghost use Rattle.s66_line.specs.Blocks.{instrs_of};
-    ghost use Rattle.s66_isa.specs.declared.limits.TheConstants.{BLOCK_LIMIT};
-    ghost use Rattle.s66_isa.specs.Lists.{has};
-    ghost use Rattle.s66_time.specs.Marks.{IsMarkOf};
-    ghost use Rattle.s66_time.specs.Ticking.{problem_of};
-    ghost use Rattle.s66_model.specs.LegalOrder.{is_ready, ready, IsBeginning, IsComplete, IsIncomplete};
-    ghost use Rattle.s66_model.specs.Leaves.{floor, floor_value};
-    ghost use Rattle.s66_model.specs.Later.{IsNextReady};
-    ghost use Rattle.s66_bound.specs.LeafValues.{leaf_of, value_of};
-    ghost use Rattle.s66_model.specs.Timing.{row_at};
-    ghost use Rattle.s66_isa.specs.Members.{numbers_in};
-    ghost use Rattle.s66_node.specs.Walked.{front};
+    ghost use Rattle.s66_line.specs.{instrs_of};
+    ghost use Rattle.s66_isa.specs.{BLOCK_LIMIT, has, numbers_in};
+    ghost use Rattle.s66_time.specs.{IsMarkOf, problem_of};
+    ghost use Rattle.s66_model.specs.{is_ready, ready, IsBeginning, IsComplete, IsIncomplete, floor, floor_value, IsNextReady, row_at};
+    ghost use Rattle.s66_bound.specs.{leaf_of, value_of};
+    ghost use Rattle.s66_node.specs.{front};
 
     /// At the empty prefix, in time quadratic in the block's length.
     pub fn new(block: &'a Block<'a>, profile: &Profile) -> Walk<'a>

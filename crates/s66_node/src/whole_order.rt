@@ -1,10 +1,9 @@
 //! A whole order with its total, and the least of several.
 
 ghost use Rattle.std.specs.Prelude.{◌≡◌, ◌≤◌, ◌++◌, [], ◌∷◌, List, ℕ, length};
-ghost use Rattle.s66_isa.specs.declared.limits.TheConstants.{BLOCK_LIMIT};
-ghost use Rattle.s66_model.specs.Timing.{Problem, total_of};
-ghost use Rattle.s66_model.specs.LegalOrder.{IsLegal};
-ghost use Rattle.s66_node.specs.Walking.{IsLeast};
+ghost use Rattle.s66_isa.specs.{BLOCK_LIMIT};
+ghost use Rattle.s66_model.specs.{Problem, total_of, IsLegal};
+ghost use Rattle.s66_node.specs.{IsLeast};
 
 use arrayvec::ArrayVec;
 use s66_isa::BLOCK_LIMIT;

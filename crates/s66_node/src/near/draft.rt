@@ -1,7 +1,7 @@
 //! An order that is changed step by step: one number is moved to another place, if the order stays legal and takes as long.
 
 ghost use Rattle.std.specs.Prelude.{◌≡◌, ◌+◌, ◌<◌, ◌≤◌, IfSome, get_or, length};
-ghost use Rattle.s66_isa.specs.declared.limits.TheConstants.{BLOCK_LIMIT};
+ghost use Rattle.s66_isa.specs.{BLOCK_LIMIT};
 ghost use Rattle.s66_node.specs.Reversed.{reversed};
 
 use crate::near::pairs::{exchange, pairs_in_reverse};

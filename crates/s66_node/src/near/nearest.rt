@@ -2,9 +2,9 @@
 //! taken out and put where the fewest pairs stand in reverse of the source.
 
 ghost use Rattle.std.specs.Prelude.{◌≡◌, ◌≤◌};
-ghost use Rattle.s66_line.specs.Blocks.{instrs_of};
-ghost use Rattle.s66_model.specs.Timing.{total_of};
-ghost use Rattle.s66_node.specs.Reversed.{reversed};
+ghost use Rattle.s66_model.specs.{total_of};
+ghost use Rattle.s66_line.specs.{instrs_of};
+ghost use Rattle.s66_node.specs.{reversed};
 
 use crate::near::draft::Draft;
 use crate::walk::Walk;

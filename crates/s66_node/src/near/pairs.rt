@@ -1,8 +1,8 @@
 //! How far an order is from the source order: how many pairs of it stand in reverse (its inversions).
 
 ghost use Rattle.std.specs.Prelude.{◌≡◌, ◌+◌, ◌<◌, ◌≤◌, length, drop, get_or};
-ghost use Rattle.s66_isa.specs.declared.limits.TheConstants.{BLOCK_LIMIT};
-ghost use Rattle.s66_node.specs.Reversed.{below, reversed};
+ghost use Rattle.s66_isa.specs.{BLOCK_LIMIT};
+ghost use Rattle.s66_node.specs.{below, reversed};
 
 /// How many numbers after a place are below the one there.
 fn below_after(numbers: &[u8], place: usize) -> u32

@@ -1,10 +1,8 @@
 use Rattle.std.proofs.Common.{◌≡◌, Some, refl, sym, subst, rules}
-use Rattle.s66_line.specs.Blocks.{instrs_of}
-use Rattle.s66_model.specs.Timing.{Problem}
-use Rattle.s66_model.specs.Expansion.{whole_orders}
+use Rattle.s66_model.specs.{Problem, whole_orders}
+use Rattle.s66_line.specs.{instrs_of}
 use Rattle.s66_time.specs.TimedOrder.{TimedOrder}
-use Rattle.s66_node.specs.Pieces.{IsBestTimed}
-use Rattle.s66_node.specs.Walking.{IsLeast}
+use Rattle.s66_node.specs.{IsBestTimed, IsLeast}
 use Rattle.s66_node.proofs.Leasts.{least-best}
 use Rattle.s66_node.proofs.expansion.timed_of.Goals as goal
 

@@ -1,16 +1,10 @@
 use Rattle.std.proofs.Common.{ℕ, ◌+◌, ◌-◌, ◌*◌, ◌<◌, ◌≡◌, ◌⊎◌, ◌++◌, ◌∷◌, [], List, Option, IfSome, IfNone, IsTrue, nat_lt, true, arith, sym, ◌∙◌, ap, subst, refl, rules, length, length-append}
-use Rattle.std.proofs.lemmas.Bool.{lt-ltb, ltb-true, true≢false}
-use Rattle.s66_isa.specs.declared.limits.TheConstants.{BLOCK_LIMIT}
-use Rattle.s66_isa.specs.Lists.{Among}
-use Rattle.s66_model.specs.declared.rule.Rule.TheVariants.{NoneNamed, WrittenEarlier}
-use Rattle.s66_model.specs.Timing.{Problem}
-use Rattle.s66_model.specs.Trees.{Alone}
-use Rattle.s66_model.specs.LegalOrder.{is_ready}
+use Rattle.std.proofs.Common.{lt-ltb, ltb-true, true≢false}
+use Rattle.s66_isa.specs.{BLOCK_LIMIT, Among}
+use Rattle.s66_model.specs.{NoneNamed, WrittenEarlier, Problem, Alone, is_ready}
 use Rattle.s66_time.proofs.LongestBeginning.{beginning-few}
-use Rattle.s66_node.specs.Walked.{Walked, front}
-use Rattle.s66_node.specs.declared.grow.OpenSplit.{OpenSplit}
-use Rattle.s66_node.specs.declared.grow.Unsplit.{Unsplit}
-use Rattle.s66_node.specs.Walking.{span, IsDue, IsFound, IsOpen, IsUnsplitPut, IsSplitPut, terminal_by}
+use Rattle.s66_node.specs.Walked.{Walked}
+use Rattle.s66_node.specs.{front, OpenSplit, Unsplit, span, IsDue, IsFound, IsOpen, IsUnsplitPut, IsSplitPut, terminal_by}
 use Rattle.s66_node.proofs.Growing.{front-push}
 use Rattle.s66_node.proofs.GrowTurns.{root-unsplit, IsGrowing, root-split, child-ready, child-few, frames-few, child-unsplit, child-split, goes-up, ends, deep-enough, is-grown}
 use Rattle.s66_node.proofs.Pushing.{found-wider}

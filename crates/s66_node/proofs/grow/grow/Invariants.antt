@@ -1,5 +1,5 @@
 use Rattle.std.proofs.Common.{◌+◌, ◌-◌, ◌*◌, ◌≤◌, ◌≡◌}
-use Rattle.s66_isa.specs.declared.limits.TheConstants.{BLOCK_LIMIT}
+use Rattle.s66_isa.specs.{BLOCK_LIMIT}
 use Rattle.s66_node.proofs.GrowTurns.{IsGrowing}
 use Rattle.s66_node.proofs.WalkTurns.{work}
 use Rattle.s66_node.proofs.grow.grow.Given as goal

@@ -1,7 +1,6 @@
 use Rattle.std.proofs.Common.{◌≡◌, ◌∙◌, ◌++◌, ◌∷◌, [], ap, arith, get_or, length, map, length-append}
 use Rattle.std.proofs.lemmas.List.{length-map, map-append}
-use Rattle.s66_node.specs.Nodes.{named, no_named}
-use Rattle.s66_node.specs.declared.name.Dominance.{Dominance}
+use Rattle.s66_node.specs.{named, no_named, Dominance}
 use Rattle.s66_node.proofs.Nodes.{get_or-last}
 use Rattle.s66_node.proofs.grow.keep_dominance.Goals as goal
 

@@ -1,10 +1,9 @@
 use Rattle.std.proofs.Common.{◌≡◌, ◌++◌, ◌∷◌, [], true≢false, sym, ap, subst, ◌∙◌}
-use Rattle.s66_model.specs.LegalOrder.{IsComplete}
-use Rattle.s66_model.specs.Expansion.{whole_at}
-use Rattle.s66_node.specs.Walking.{IsLeast, terminal_by, value_by}
+use Rattle.s66_model.specs.{IsComplete, whole_at}
+use Rattle.s66_bound.proofs.ValueBounds.{floor-whole}
+use Rattle.s66_node.specs.{IsLeast, terminal_by, value_by}
 use Rattle.s66_node.proofs.Terminals.{found-none, whole-order, whole-legal, least-same}
 use Rattle.s66_node.proofs.grow.keep_whole.Goals as goal
-use Rattle.s66_bound.proofs.ValueBounds.{floor-whole}
 
 pub returns-then-is_complete : goal.returns-then-is_complete
 returns-then-is_complete c =

@@ -1,7 +1,7 @@
 use Rattle.std.proofs.Common.{◌≤◌, ◌⊎◌, true≢false, ◌∙◌, sym, refl, arith, inl, inr}
-use Rattle.s66_model.specs.LegalOrder.{IsComplete, IsIncomplete}
-use Rattle.s66_node.proofs.grow.unsplit_by_floor.Goals as goal
+use Rattle.s66_model.specs.{IsComplete, IsIncomplete}
 use Rattle.s66_node.proofs.grow.unsplit_by_floor.Goals.{then-is_complete-via-then-is_complete, then-is_complete-via-else-is_complete+then-value-best}
+use Rattle.s66_node.proofs.grow.unsplit_by_floor.Goals as goal
 
 pub returns-then-is_complete-clause-found : goal.returns-then-is_complete-clause-found
 returns-then-is_complete-clause-found c =

@@ -1,8 +1,6 @@
 use Rattle.std.proofs.Common.{◌≡◌, IfSome, subst}
-use Rattle.s66_isa.specs.Lists.{Among}
-use Rattle.s66_model.specs.declared.rule.Rule.TheVariants.{WrittenEarlier}
-use Rattle.s66_model.specs.LegalOrder.{IsIncomplete}
-use Rattle.s66_model.specs.DominatedLeaves.{DominatesByRule}
+use Rattle.s66_isa.specs.{Among}
+use Rattle.s66_model.specs.{WrittenEarlier, IsIncomplete, DominatesByRule}
 use Rattle.s66_node.proofs.Terminals.{passed-name}
 use Rattle.s66_node.proofs.grow.unsplit_by_name.Goals as goal
 

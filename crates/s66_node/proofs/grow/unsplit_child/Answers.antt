@@ -1,4 +1,4 @@
-use Rattle.s66_node.specs.Walking.{span}
+use Rattle.s66_node.specs.{span}
 use Rattle.s66_node.proofs.grow.unsplit_child.Goals as goal
 
 pub returns-clause-found : goal.returns-clause-found

@@ -1,5 +1,4 @@
-use Rattle.std.proofs.Common.{arith}
-use Rattle.std.proofs.lemmas.Bool.{ltb-true}
+use Rattle.std.proofs.Common.{arith, ltb-true}
 use Rattle.s66_node.proofs.Earlier.{earlier-at}
 use Rattle.s66_node.proofs.mark_table.is_earlier.Goals as goal
 

@@ -1,9 +1,7 @@
-use Rattle.std.proofs.Common.{◌∷◌, [], List, arith, sym, subst, map, length-append}
-use Rattle.std.proofs.lemmas.List.{length-set}
+use Rattle.std.proofs.Common.{◌∷◌, [], List, arith, sym, subst, map, length-append, length-set}
 use Rattle.std.proofs.lemmas.List.Elements.{All-push, All-set}
-use Rattle.s66_isa.specs.Lists.{Among}
-use Rattle.s66_node.specs.declared.mark_table.MarkEntry.{MarkEntry}
-use Rattle.s66_node.specs.MarkTables.{IsEntry, AreEntries, numbers_of}
+use Rattle.s66_isa.specs.{Among}
+use Rattle.s66_node.specs.{MarkEntry, IsEntry, AreEntries, numbers_of}
 use Rattle.s66_node.proofs.Earlier.{names-set, names-push}
 use Rattle.s66_node.proofs.mark_table.put_entry.Goals as goal
 

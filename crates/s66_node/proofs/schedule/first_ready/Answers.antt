@@ -1,6 +1,6 @@
 use Rattle.std.proofs.Common.{◌≡◌, ◌∙◌, true, sym, subst}
-use Rattle.s66_model.specs.LegalOrder.{is_ready}
-use Rattle.s66_isa.specs.Members.{numbers_in}
+use Rattle.s66_isa.specs.{numbers_in}
+use Rattle.s66_model.specs.{is_ready}
 use Rattle.s66_node.specs.Walked.{Walked}
 use Rattle.s66_node.proofs.Schedules.{all-ready, taken-ready}
 use Rattle.s66_node.proofs.schedule.first_ready.Goals as goal

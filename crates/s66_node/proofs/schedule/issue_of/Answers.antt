@@ -1,5 +1,5 @@
 use Rattle.std.proofs.Common.{ℕ, ◌∙◌, List, arith, ap}
-use Rattle.s66_model.specs.Timing.{Problem, points_of, next}
+use Rattle.s66_model.specs.{Problem, points_of, next}
 use Rattle.s66_node.specs.Walked.{Walked}
 use Rattle.s66_node.proofs.Schedules.{next-push}
 use Rattle.s66_node.proofs.schedule.issue_of.Goals as goal

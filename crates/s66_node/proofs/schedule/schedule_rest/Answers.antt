@@ -1,7 +1,7 @@
 use Rattle.std.proofs.Common.{◌≡◌, arith, ap, length, take, refl, sym, subst}
 use Rattle.std.proofs.Math.Seq.{take-length}
+use Rattle.s66_model.specs.{IsComplete}
 use Rattle.s66_time.proofs.LongestBeginning.{beginning-few}
-use Rattle.s66_model.specs.LegalOrder.{IsComplete}
 use Rattle.s66_node.specs.Walked.{Walked}
 use Rattle.s66_node.proofs.Schedules.{push-goes, none-ready}
 use Rattle.s66_node.proofs.schedule.schedule_rest.Goals as goal

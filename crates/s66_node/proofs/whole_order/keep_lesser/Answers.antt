@@ -1,9 +1,8 @@
 use Rattle.std.proofs.Common.{◌≡◌, ◌<◌, Some, arith, sym, ap, subst, ◌∙◌}
-use Rattle.s66_node.specs.declared.whole_order.WholeOrder.{WholeOrder}
-use Rattle.s66_node.specs.Walking.{IsLeast}
+use Rattle.s66_node.specs.{WholeOrder, IsLeast}
 use Rattle.s66_node.proofs.Leasts.{least-kept, least-new, some-same}
-use Rattle.s66_node.proofs.whole_order.keep_lesser.Goals as goal
 use Rattle.s66_node.proofs.whole_order.keep_lesser.Goals.{in-Some+else-found-total, in_default}
+use Rattle.s66_node.proofs.whole_order.keep_lesser.Goals as goal
 
 pub returns-then-found-total : goal.returns-then-found-total
 returns-then-found-total c =

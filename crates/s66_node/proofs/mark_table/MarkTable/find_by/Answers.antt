@@ -1,7 +1,6 @@
 use Rattle.std.proofs.Common.{◌≡◌, length, ◌<◌, get_or, map, rules, arith, sym, subst}
-use Rattle.s66_isa.specs.Lists.{Among}
-use Rattle.s66_node.specs.declared.mark_table.MarkEntry.{MarkEntry}
-use Rattle.s66_node.specs.MarkTables.{MarkTable, numbers_of}
+use Rattle.s66_isa.specs.{Among}
+use Rattle.s66_node.specs.{MarkEntry, MarkTable, numbers_of}
 use Rattle.s66_node.proofs.Earlier.{names-at}
 use Rattle.s66_node.proofs.mark_table.MarkTable.find_by.Goals as goal
 

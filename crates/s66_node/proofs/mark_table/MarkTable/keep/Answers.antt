@@ -1,6 +1,6 @@
 use Rattle.std.proofs.Common.{◌≡◌, ◌⊎◌, subst}
-use Rattle.s66_isa.specs.Lists.{Among}
-use Rattle.s66_node.specs.MarkTables.{MarkTable, numbers_of}
+use Rattle.s66_isa.specs.{Among}
+use Rattle.s66_node.specs.{MarkTable, numbers_of}
 use Rattle.s66_node.proofs.mark_table.MarkTable.keep.Goals as goal
 
 pub returns-in_err-put_entry-clause-known : goal.returns-in_err-put_entry-clause-known

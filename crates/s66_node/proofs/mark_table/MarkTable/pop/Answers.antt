@@ -1,8 +1,8 @@
 use Rattle.std.proofs.Common.{◌≡◌, ◌∙◌, ◌++◌, ◌∷◌, [], sym, ap, map, subst}
-use Rattle.s66_node.specs.MarkTables.{MarkTable, IsEntry, numbers_of}
+use Rattle.s66_node.specs.{MarkTable, IsEntry, numbers_of}
 use Rattle.s66_node.proofs.Earlier.{entries-pop, names-pop}
-use Rattle.s66_node.proofs.mark_table.MarkTable.pop.Goals as goal
 use Rattle.s66_node.proofs.mark_table.MarkTable.pop.Goals.{then-is_empty, else-is_empty}
+use Rattle.s66_node.proofs.mark_table.MarkTable.pop.Goals as goal
 
 pub invariant_of-self-else-is_empty : goal.invariant_of-self-else-is_empty
 invariant_of-self-else-is_empty c = (entries-pop _ _ _ _ c.in_ok-entry.ensures.items c.self.invariant).0

@@ -1,5 +1,5 @@
 use Rattle.std.proofs.Common.{◌≡◌, ◌≤◌}
-use Rattle.s66_node.specs.Reversed.{reversed}
+use Rattle.s66_node.specs.{reversed}
 use Rattle.s66_node.proofs.near.nearest.settled.Given as goal
 
 abbrev pub invariant-loop : goal.invariant-loop

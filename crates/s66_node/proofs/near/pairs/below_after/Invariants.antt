@@ -1,5 +1,5 @@
 use Rattle.std.proofs.Common.{◌≡◌, ◌≤◌, ◌+◌, drop}
-use Rattle.s66_node.specs.Reversed.{below}
+use Rattle.s66_node.specs.{below}
 use Rattle.s66_node.proofs.near.pairs.below_after.Given as goal
 
 abbrev pub invariant-loop-later : goal.invariant-loop-later

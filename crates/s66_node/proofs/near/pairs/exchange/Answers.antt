@@ -1,6 +1,6 @@
 use Rattle.std.proofs.Common.{arith}
+use Rattle.s66_isa.specs.{BLOCK_LIMIT}
 use Rattle.s66_node.proofs.Exchanged.{swap-reversed, reversed-le}
-use Rattle.s66_isa.specs.declared.limits.TheConstants.{BLOCK_LIMIT}
 use Rattle.s66_node.proofs.near.pairs.exchange.Goals as goal
 
 pub returns-then-second-first-clause-pairs : goal.returns-then-second-first-clause-pairs

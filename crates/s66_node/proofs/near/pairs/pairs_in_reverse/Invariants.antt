@@ -1,6 +1,6 @@
 use Rattle.std.proofs.Common.{◌≡◌, ◌≤◌, ◌+◌, ◌*◌, drop, length}
-use Rattle.s66_isa.specs.declared.limits.TheConstants.{BLOCK_LIMIT}
-use Rattle.s66_node.specs.Reversed.{reversed}
+use Rattle.s66_isa.specs.{BLOCK_LIMIT}
+use Rattle.s66_node.specs.{reversed}
 use Rattle.s66_node.proofs.near.pairs.pairs_in_reverse.Given as goal
 
 abbrev pub invariant-loop-place : goal.invariant-loop-place

@@ -1,22 +1,16 @@
-use Rattle.std.proofs.Common.{◌≡◌, List, Option, arith, rules, length, ◌∙◌, ap, subst, refl}
-use Rattle.std.specs.Option.{option_map}
-use Rattle.s66_isa.specs.declared.instr.Instr.{Instr}
-use Rattle.s66_line.specs.Blocks.{instrs_of}
-use Rattle.s66_model.specs.Timing.{Problem}
-use Rattle.s66_model.specs.Trees.{Tree}
-use Rattle.s66_model.specs.Piece.{Terminal}
-use Rattle.s66_model.specs.Expansion.{whole_orders}
-use Rattle.s66_time.proofs.LongestBeginning.{beginning-few}
-use Rattle.s66_time.specs.Ticking.{problem_of}
+use Rattle.std.proofs.Common.{◌≡◌, List, Option, arith, rules, length, ◌∙◌, ap, subst, refl, option_map}
+use Rattle.s66_isa.specs.{Instr}
+use Rattle.s66_model.specs.{Problem, Tree, Terminal, whole_orders}
+use Rattle.s66_line.specs.{instrs_of}
+use Rattle.s66_time.specs.{problem_of}
 use Rattle.s66_time.specs.TimedOrder.{TimedOrder}
-use Rattle.s66_node.specs.Pieces.{PieceOf, IsBestTimed}
+use Rattle.s66_time.proofs.LongestBeginning.{beginning-few}
+use Rattle.s66_node.specs.{PieceOf, IsBestTimed, Origin, Span, span, IsGrown, IsLeast, names_of}
 use Rattle.s66_node.specs.Walked.{Walked}
-use Rattle.s66_node.specs.declared.piece.Origin.{Origin}
-use Rattle.s66_node.specs.Walking.{Span, span, IsGrown, IsLeast, names_of}
 use Rattle.s66_node.proofs.Pieces.{piece-expanded, piece-kept}
-use Rattle.s66_node.proofs.walk.Walk.expand_named.Goals as goal
 use Rattle.s66_node.proofs.walk.Walk.expand_named.Goals.{In_ok-timed_of}
 use Rattle.s66_node.proofs.walk.Walk.expand_named.Given.{Over}
+use Rattle.s66_node.proofs.walk.Walk.expand_named.Goals as goal
 
 pub copy_of-requires : goal.copy_of-requires
 copy_of-requires g c =

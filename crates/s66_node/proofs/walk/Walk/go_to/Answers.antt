@@ -1,5 +1,5 @@
 use Rattle.std.proofs.Common.{◌≡◌, true, sym, subst, get_or, arith}
-use Rattle.s66_model.specs.LegalOrder.{is_ready}
+use Rattle.s66_model.specs.{is_ready}
 use Rattle.s66_node.specs.Walked.{Walked}
 use Rattle.s66_node.proofs.Standing.{ready-at}
 use Rattle.s66_node.proofs.walk.Walk.go_to.Goals as goal

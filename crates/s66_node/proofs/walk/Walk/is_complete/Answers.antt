@@ -1,5 +1,5 @@
 use Rattle.std.proofs.Common.{length, ap, ◌∙◌}
-use Rattle.s66_line.specs.Blocks.{Block, instrs_of}
+use Rattle.s66_line.specs.{Block, instrs_of}
 use Rattle.s66_node.proofs.Standing.{walked-either}
 use Rattle.s66_node.proofs.walk.Walk.is_complete.Goals as goal
 

@@ -1,14 +1,11 @@
+use Rattle.std.specs.Cmp.{both_ways}
 use Rattle.std.proofs.Common.{ℕ, ◌≡◌, ◌≤◌, ◌-◌, ◌↔◌, Bool, true, false, IsTrue, List, [], length, get_or, refl, sym, ap, subst, arith, ◌∙◌}
 use Rattle.std.proofs.lemmas.List.{length-map}
-use Rattle.std.specs.Cmp.{both_ways}
-use Rattle.s66_isa.specs.Lists.{has, every}
-use Rattle.s66_isa.specs.Table.{numbers}
+use Rattle.s66_isa.specs.{has, every, numbers, numbers_in}
 use Rattle.s66_isa.proofs.Lists.{every-each, each-every, has-among, among-has}
-use Rattle.s66_line.specs.Blocks.{instrs_of}
-use Rattle.s66_model.specs.Dependence.{needs, all_needs}
-use Rattle.s66_model.specs.LegalOrder.{is_ready}
+use Rattle.s66_model.specs.{needs, all_needs, is_ready}
 use Rattle.s66_model.proofs.Beginnings.{length-rising}
-use Rattle.s66_isa.specs.Members.{numbers_in}
+use Rattle.s66_line.specs.{instrs_of}
 use Rattle.s66_time.proofs.Readiness.{is_free, is_free-ready, is_ready-same}
 use Rattle.s66_node.specs.Walked.{Walked}
 use Rattle.s66_node.proofs.walk.Walk.is_ready.Goals as goal

@@ -1,7 +1,7 @@
 use Rattle.std.proofs.Common.{◌+◌, ◌<◌, ◌≡◌, true, false, length, arith, ap, sym, ◌∙◌}
-use Rattle.s66_model.specs.LegalOrder.{is_ready}
+use Rattle.s66_model.specs.{is_ready}
 use Rattle.s66_model.proofs.Later.{next-skipped, next-found}
-use Rattle.s66_line.specs.Blocks.{instrs_of}
+use Rattle.s66_line.specs.{instrs_of}
 use Rattle.s66_node.specs.Walked.{Walked}
 use Rattle.s66_node.proofs.walk.Walk.next_ready.Goals as goal
 

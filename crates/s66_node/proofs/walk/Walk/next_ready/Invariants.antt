@@ -1,5 +1,5 @@
 use Rattle.std.proofs.Common.{◌≡◌, ◌-◌}
-use Rattle.s66_model.specs.Later.{ready_above}
+use Rattle.s66_model.specs.{ready_above}
 use Rattle.s66_node.proofs.walk.Walk.next_ready.Given as goal
 
 -- what is ready above n is above this number too

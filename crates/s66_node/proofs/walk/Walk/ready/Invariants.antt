@@ -1,5 +1,5 @@
-use Rattle.s66_line.specs.Blocks.{instrs_of}
-use Rattle.s66_node.specs.Walked.{IsReadyFront}
+use Rattle.s66_line.specs.{instrs_of}
+use Rattle.s66_node.specs.{IsReadyFront}
 use Rattle.s66_node.proofs.walk.Walk.ready.Given as goal
 
 abbrev pub invariant-loop-position : goal.invariant-loop-position

@@ -1,9 +1,8 @@
-use Rattle.std.proofs.Common.{◌≡◌, ◌∙◌, sym, ap, subst, List}
-use Rattle.std.proofs.lemmas.Bool.{true≢false}
-use Rattle.s66_isa.specs.declared.instr.Instr.{Instr}
-use Rattle.s66_line.specs.Blocks.{instrs_of}
-use Rattle.s66_model.specs.LegalOrder.{IsLegal}
+use Rattle.std.proofs.Common.{◌≡◌, ◌∙◌, sym, ap, subst, List, true≢false}
+use Rattle.s66_isa.specs.{Instr}
+use Rattle.s66_model.specs.{IsLegal}
 use Rattle.s66_model.proofs.LegalOrders.{order-legal}
+use Rattle.s66_line.specs.{instrs_of}
 use Rattle.s66_node.specs.Walked.{Walked}
 use Rattle.s66_node.proofs.walk.Walk.timed.Goals as goal
 

@@ -1,7 +1,6 @@
-use Rattle.std.proofs.Common.{◌≡◌, true, false, [], ◌∷◌, ◌++◌, ap, sym, subst, get_or, take, arith, ◌∙◌}
-use Rattle.std.proofs.lemmas.Bool.{true≢false}
+use Rattle.std.proofs.Common.{◌≡◌, true, false, [], ◌∷◌, ◌++◌, ap, sym, subst, get_or, take, arith, ◌∙◌, true≢false}
 use Rattle.std.proofs.lemmas.List.{take_more}
-use Rattle.s66_model.specs.LegalOrder.{IsBeginning, is_ready}
+use Rattle.s66_model.specs.{IsBeginning, is_ready}
 use Rattle.s66_model.proofs.Remaining.{step-begins}
 use Rattle.s66_node.specs.Walked.{Walked}
 use Rattle.s66_node.proofs.Standing.{ready-at}

@@ -1,5 +1,5 @@
 use Rattle.std.proofs.Common.{◌≡◌, take}
-use Rattle.s66_model.specs.LegalOrder.{IsBeginning}
+use Rattle.s66_model.specs.{IsBeginning}
 use Rattle.s66_node.proofs.walk.Walk.try_go_to.Given as goal
 
 abbrev pub invariant-loop-position : goal.invariant-loop-position

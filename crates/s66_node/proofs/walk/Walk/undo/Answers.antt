@@ -1,5 +1,5 @@
 use Rattle.std.proofs.Common.{◌≡◌, ◌∙◌, ◌-◌, List, ℕ, length, take, ap, sym, arith}
-use Rattle.s66_isa.specs.Lists.{has}
+use Rattle.s66_isa.specs.{has}
 use Rattle.s66_time.specs.Ticking.{Ticking}
 use Rattle.s66_node.proofs.Standing.{walked-undo, last-range, last-ranked, ranks-undo, front-back, front-stays}
 use Rattle.s66_node.proofs.walk.Walk.undo.Goals as goal

@@ -1,5 +1,5 @@
 use Rattle.std.proofs.Common.{◌≡◌, ◌≤◌, length}
-use Rattle.s66_node.specs.Reversed.{reversed}
+use Rattle.s66_node.specs.{reversed}
 use Rattle.s66_node.proofs.near.draft.Draft.move_forward.Given as goal
 
 abbrev pub invariant-loop-step : goal.invariant-loop-step
