@@ -1,12 +1,8 @@
 -- The text of documents, as the lines of which it consists.
-use Rattle.std.specs.Prelude.{ℕ, List, [], ◌∷◌, ◌++◌, Option, None, Some, length}
-use Rattle.s66_model.specs.Trees.{Vertex, flat}
-use Rattle.s66_model.specs.DominatedLeaves.{Ending}
-use Rattle.s66_moments.specs.declared.fact_line.FactStep.{FactStep}
-use Rattle.s66_cert.specs.declared.version.Version.{Version}
-use Rattle.s66_cert.specs.Versions.{version}
-use Rattle.s66_cert.specs.Documents.{Document}
-use Rattle.s66_cert.specs.Lines.{DocumentLine, Header, Profile, Block, Instruction, Time, Bound, Order, OfFact, OfTree, End}
+use Rattle.std.proofs.Common.{ℕ, List, [], ◌∷◌, ◌++◌, Option, None, Some, length}
+use Rattle.s66_model.specs.{Vertex, flat, Ending}
+use Rattle.s66_moments.specs.{FactStep}
+use Rattle.s66_cert.specs.{Version, version, Document, DocumentLine, Header, Profile, Block, Instruction, Time, Bound, Order, OfFact, OfTree, End}
 
 abbrev pub instructions_of : List (List ℕ) → List DocumentLine
 instructions_of [] = []

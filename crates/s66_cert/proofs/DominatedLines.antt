@@ -1,18 +1,12 @@
 -- Which leaves a document has, and those that are allowed while it is read.
 use Rattle.std.proofs.Common.{◌≡◌, ◌⊎◌, inl, inr, ◌&&◌, Bool, true, false, not, List, [], ◌∷◌, ◌++◌, Option, None, Some, is_some, refl, sym, ◌∙◌, ℕ, arith}
 use Rattle.std.proofs.lemmas.Bool.{and_parts, and_from}
-use Rattle.s66_isa.specs.Lists.{every, some_of}
-use Rattle.s66_isa.specs.declared.limits.TheConstants.{BLOCK_LIMIT}
-use Rattle.s66_model.specs.declared.rule.Rule.{Rule}
-use Rattle.s66_model.specs.declared.rule.Rule.TheVariants.{NoneNamed, ClampedStanding}
-use Rattle.s66_model.specs.Trees.{Tree, Vertex, AtTerminal, AtSplit, flat}
-use Rattle.s66_model.specs.DominatedLeaves.{Ending, Bounding, Dominated, Factual}
-use Rattle.s66_moments.specs.declared.fact_line.FactStep.{FactStep}
-use Rattle.s66_model.specs.Lines.{has_dominated_line}
-use Rattle.s66_cert.specs.Documents.{names_nodes, is_factual, has_dominated, AreFacts, HasItsLeaves}
-use Rattle.s66_cert.specs.Reading.{is_allowed, first_facts}
+use Rattle.s66_isa.specs.{every, some_of, BLOCK_LIMIT}
+use Rattle.s66_model.specs.{Rule, NoneNamed, ClampedStanding, Tree, Vertex, AtTerminal, AtSplit, flat, Ending, Bounding, Dominated, Factual, has_dominated_line}
 use Rattle.s66_model.proofs.OnceCovered.{and_true}
 use Rattle.s66_model.proofs.PushedBoth.{and_false}
+use Rattle.s66_moments.specs.{FactStep}
+use Rattle.s66_cert.specs.{names_nodes, is_factual, has_dominated, AreFacts, HasItsLeaves, is_allowed, first_facts}
 
 -- LISTS
 

@@ -1,10 +1,8 @@
 -- The tree of a document has at least one line, and few for its splits.
 use Rattle.std.proofs.Common.{◌≤◌, ◌<◌, ◌+◌, ◌*◌, ◌^◌, ℕ, List, [], ◌∷◌, length, ap, arith, length-append}
-use Rattle.s66_isa.specs.declared.limits.TheConstants.{BLOCK_LIMIT}
-use Rattle.s66_model.specs.Trees.{Tree, Alone, Parted, Siblings, NoMore, Unsplit, Split, flat_siblings, flat, sibling_splits, splits}
-use Rattle.s66_model.specs.DominatedLeaves.{Ending}
-use Rattle.s66_cert.specs.Documents.{SiblingsFit, TreeFits}
-use Rattle.s66_cert.specs.DocumentParts.{Parts, AreWhole, tree_of_lines}
+use Rattle.s66_isa.specs.{BLOCK_LIMIT}
+use Rattle.s66_model.specs.{Tree, Alone, Parted, Siblings, NoMore, Unsplit, Split, flat_siblings, flat, sibling_splits, splits, Ending}
+use Rattle.s66_cert.specs.{SiblingsFit, TreeFits, Parts, AreWhole, tree_of_lines}
 
 -- each split has at most BLOCK_LIMIT children
 few-siblings : (ns : List ℕ) (siblings : Siblings Ending) → SiblingsFit BLOCK_LIMIT ns siblings → length (flat_siblings siblings) ≤ length ns + BLOCK_LIMIT * sibling_splits siblings

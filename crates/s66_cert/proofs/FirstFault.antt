@@ -1,19 +1,14 @@
 -- The fault that reading returns is the first fault of the text.
 use Rattle.std.proofs.Common.{◌≡◌, ◌≤◌, ◌<◌, ◌+◌, ◌-◌, ◌&&◌, ℕ, suc, Bool, true, false, List, [], ◌∷◌, ◌++◌, length, Option, None, Some, refl, sym, ap, ◌∙◌, arith, cond, leb, eqb, append_assoc, subst}
-use Rattle.std.proofs.lemmas.Bool.{cond-false, leb-false, leb-true, lt-leb}
-use Rattle.std.specs.Prelude.{Result, Ok, Err}
-use Rattle.s66_isa.specs.declared.limits.TheConstants.{BLOCK_LIMIT}
-use Rattle.s66_model.specs.Trees.{AtTerminal, AtSplit}
-use Rattle.s66_cert.specs.Documents.{Document, IsTextWithin}
-use Rattle.s66_cert.specs.Faults.{IsLine, HaveNoNewline, BeginsWithin, Begins, HasLine, IsBadLine, IsSplitTooMany, IsCut, IsFault}
-use Rattle.s66_cert.specs.Lines.{DocumentLine, Header, Profile, Block, Instruction, Time, Bound, Order, OfFact, OfTree, End, line_read}
-use Rattle.s66_cert.specs.Reading.{DocumentState, first_state, place_of_tree, with_vertex, is_leaf_of, takes_step, is_wanting, step_at, step_if, step, and_then, steps, ended, is_header, read_within, whole_lines, last_bytes}
-use Rattle.s66_line.specs.Fields.{with_newlines}
-use Rattle.s66_cert.specs.declared.limits.TheConstants.{SPLIT_LIMIT}
-use Rattle.s66_cert.specs.declared.error.CertError.{CertError}
-use Rattle.s66_cert.specs.declared.error.CertError.TheVariants.{BadLine, Truncated, TooManyNodes, OutOfMemory}
-use Rattle.s66_cert.specs.declared.document_place.DocumentPlace.{DocumentPlace}
-use Rattle.s66_cert.specs.declared.document_place.DocumentPlace.TheVariants.{AtHeader, AtProfile, AtBlock, AtInstruction, AtTime, AtBound, AtOrder, AtTree, AtEnd}
+use Rattle.std.proofs.Common.{leb-false, leb-true, Result, Ok, Err}
+use Rattle.std.proofs.lemmas.Bool.{cond-false, lt-leb}
+use Rattle.s66_isa.specs.{BLOCK_LIMIT}
+use Rattle.s66_model.specs.{AtTerminal, AtSplit}
+use Rattle.s66_line.specs.{with_newlines}
+use Rattle.s66_cert.specs.{Document, IsTextWithin, IsLine, HaveNoNewline, BeginsWithin, Begins, HasLine, IsBadLine, IsSplitTooMany, IsCut, IsFault, DocumentLine, Header, Profile, Block, Instruction}
+use Rattle.s66_cert.specs.{Time, Bound, Order, OfFact, OfTree, End, line_read, DocumentState, first_state, place_of_tree, with_vertex, is_leaf_of, takes_step, is_wanting, step_at, step_if, step}
+use Rattle.s66_cert.specs.{and_then, steps, ended, is_header, read_within, whole_lines, last_bytes, SPLIT_LIMIT, CertError, BadLine, Truncated, TooManyNodes, OutOfMemory, DocumentPlace, AtHeader}
+use Rattle.s66_cert.specs.{AtProfile, AtBlock, AtInstruction, AtTime, AtBound, AtOrder, AtTree, AtEnd}
 use Rattle.s66_cert.proofs.TextLines.{cut, are-lines, whole-of, whole-all, newlines-append}
 use Rattle.s66_cert.proofs.ReadFronts.{are-append, steps-append, begins, fronts}
 use Rattle.s66_cert.proofs.RoundTrip.{read-again}

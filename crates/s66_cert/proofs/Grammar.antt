@@ -1,28 +1,18 @@
 -- The lines of a document, read one after the other, give the document.
-use Rattle.std.proofs.Common.{◌≡◌, ◌≤◌, ◌<◌, ◌+◌, ◌-◌, ◌^◌, ◌&&◌, not, ℕ, suc, Bool, true, false, List, [], ◌∷◌, ◌++◌, length, map, Option, None, Some, is_some, refl, sym, ap, ◌∙◌, arith, append_assoc, length-append}
-use Rattle.std.proofs.lemmas.Bool.{lt-leb, lt-ltb, and_parts}
-use Rattle.std.proofs.lemmas.List.{append-nil, map-append}
-use Rattle.std.specs.Prelude.{Result, Ok}
-use Rattle.s66_isa.specs.Lists.{every}
-use Rattle.s66_model.specs.declared.rule.Rule.{Rule}
-use Rattle.s66_model.specs.Leaves.{Whole}
-use Rattle.s66_model.specs.Trees.{Tree, Alone, Parted, Siblings, NoMore, Unsplit, Split, Vertex, AtTerminal, AtSplit, flat_siblings, flat, sibling_splits, splits}
-use Rattle.s66_model.specs.DominatedLeaves.{Ending, Bounding}
-use Rattle.s66_model.specs.Preorder.{SiblingsMatch, TreeMatches}
+use Rattle.std.proofs.Common.{◌≡◌, ◌≤◌, ◌<◌, ◌+◌, ◌-◌, ◌^◌, ◌&&◌, not, ℕ, suc, Bool, true, false, List, [], ◌∷◌, ◌++◌, length, map, Option, None, Some, is_some, refl, sym, ap, ◌∙◌, arith}
+use Rattle.std.proofs.Common.{append_assoc, length-append, lt-ltb, append-nil, Result, Ok}
+use Rattle.std.proofs.lemmas.Bool.{lt-leb, and_parts}
+use Rattle.std.proofs.lemmas.List.{map-append}
+use Rattle.s66_isa.specs.{every}
+use Rattle.s66_model.specs.{Rule, Whole, Tree, Alone, Parted, Siblings, NoMore, Unsplit, Split, Vertex, AtTerminal, AtSplit, flat_siblings, flat, sibling_splits, splits, Ending, Bounding}
+use Rattle.s66_model.specs.{SiblingsMatch, TreeMatches, has_dominated_line}
 use Rattle.s66_model.proofs.Forests.{read-flat}
-use Rattle.s66_moments.specs.declared.fact_line.FactStep.{FactStep}
-use Rattle.s66_cert.specs.Documents.{names_nodes, Document, IsDocumentWithin, AreDocumentsWithin, AreInstructions, AreFactSteps, AreFacts, SiblingsFit, TreeFits}
+use Rattle.s66_moments.specs.{FactStep}
+use Rattle.s66_cert.specs.{names_nodes, Document, IsDocumentWithin, AreDocumentsWithin, AreInstructions, AreFactSteps, AreFacts, SiblingsFit, TreeFits, DocumentLine, Header, Profile, Block}
+use Rattle.s66_cert.specs.{Instruction, Time, Bound, Order, OfFact, OfTree, End, line_bytes, IsLineInRange, Parts, tree_of_lines, Version, BoundsAlone, has_suppositions, version, version_rule}
+use Rattle.s66_cert.specs.{has_facts, may_suppose, end_step, nothing, headed, first_facts, DocumentState, place_of_instruction, place_of_tree, is_leaf_of, is_step_of, step_at, step_if, and_then}
+use Rattle.s66_cert.specs.{steps, FACT_LIMIT, CertError, AtHeader, AtProfile, AtBlock, AtInstruction, AtTime, AtBound, AtOrder}
 use Rattle.s66_cert.proofs.DocumentLines.{open_lines, document_lines, documents_lines, instructions_of, steps_of, facts_of, vertices_of}
-use Rattle.s66_cert.specs.Lines.{DocumentLine, Header, Profile, Block, Instruction, Time, Bound, Order, OfFact, OfTree, End, line_bytes, IsLineInRange}
-use Rattle.s66_cert.specs.DocumentParts.{Parts, tree_of_lines}
-use Rattle.s66_cert.specs.declared.version.Version.{Version}
-use Rattle.s66_cert.specs.declared.version.Version.TheVariants.{BoundsAlone}
-use Rattle.s66_cert.specs.Versions.{has_suppositions, version, version_rule, has_facts, may_suppose}
-use Rattle.s66_model.specs.Lines.{has_dominated_line}
-use Rattle.s66_cert.specs.Reading.{end_step, nothing, headed, first_facts, DocumentState, place_of_instruction, place_of_tree, is_leaf_of, is_step_of, step_at, step_if, and_then, steps}
-use Rattle.s66_cert.specs.declared.limits.TheConstants.{FACT_LIMIT}
-use Rattle.s66_cert.specs.declared.error.CertError.{CertError}
-use Rattle.s66_cert.specs.declared.document_place.DocumentPlace.TheVariants.{AtHeader, AtProfile, AtBlock, AtInstruction, AtTime, AtBound, AtOrder}
 use Rattle.s66_cert.proofs.LineTexts.{line-again}
 use Rattle.s66_cert.proofs.DominatedLines.{every-parts, leaves-wanting, first-some}
 use Rattle.s66_cert.proofs.Heads.{AreReadUnder, steps-allowed, own-rule, own-wanted, read-own}

@@ -1,20 +1,10 @@
 -- The version at the head of a document, and what the document has.
 use Rattle.std.proofs.Common.{◌≡◌, ◌⊎◌, inl, inr, ◌&&◌, ◌||◌, Bool, true, false, not, List, [], ◌∷◌, ◌++◌, Option, None, Some, is_some, refl, sym, ap, ◌∙◌, ℕ, arith, subst}
-use Rattle.s66_isa.specs.Lists.{every, some_of}
-use Rattle.s66_isa.specs.declared.limits.TheConstants.{BLOCK_LIMIT}
-use Rattle.s66_model.specs.declared.rule.Rule.{Rule}
-use Rattle.s66_model.specs.declared.rule.Rule.TheVariants.{NoneNamed, WrittenEarlier, ClampedStanding}
-use Rattle.s66_model.specs.Trees.{Tree, flat}
-use Rattle.s66_model.specs.DominatedLeaves.{Ending}
-use Rattle.s66_moments.specs.declared.fact_line.FactStep.{FactStep}
-use Rattle.s66_moments.specs.Suppositions.{supposes}
-use Rattle.s66_cert.specs.declared.version.Version.{Version}
-use Rattle.s66_cert.specs.declared.version.Version.TheVariants.{BoundsAlone, EarlierNodes, StandingNodes, FactLines, Suppositions}
-use Rattle.s66_cert.specs.Versions.{has_suppositions, version, version_rule, has_facts, may_suppose}
-use Rattle.s66_cert.specs.Documents.{AreFacts, HasItsLeaves}
-use Rattle.s66_cert.specs.Faults.{LacksSupposition, MayHead}
-use Rattle.s66_cert.specs.Fine.{AreOfVersion}
-use Rattle.s66_cert.specs.Reading.{first_facts, is_step_of}
+use Rattle.s66_isa.specs.{every, some_of, BLOCK_LIMIT}
+use Rattle.s66_model.specs.{Rule, NoneNamed, WrittenEarlier, ClampedStanding, Tree, flat, Ending}
+use Rattle.s66_moments.specs.{FactStep, supposes}
+use Rattle.s66_cert.specs.{Version, BoundsAlone, EarlierNodes, StandingNodes, FactLines, Suppositions, has_suppositions, version, version_rule, has_facts, may_suppose, AreFacts, HasItsLeaves}
+use Rattle.s66_cert.specs.{LacksSupposition, MayHead, AreOfVersion, first_facts, is_step_of}
 use Rattle.s66_cert.proofs.DominatedLines.{AreAllowed, leaves-allowed, leaves-any, facts-fit, first-some, first-fit}
 
 -- A VERSION UNDER WHICH FACT LINES WERE READ

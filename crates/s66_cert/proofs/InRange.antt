@@ -1,33 +1,18 @@
 -- Documents of blocks of a limit are documents of any greater limit, and no line of one has a newline.
-use Rattle.std.proofs.Common.{Option, None, Some, ◌<◌, ◌≤◌, ◌^◌, ℕ, List, [], ◌∷◌, ◌++◌, map, refl, arith}
-use Rattle.std.specs.Prelude.{codes, decimal}
-use Rattle.s66_isa.specs.Lists.{after_blanks}
-use Rattle.s66_isa.specs.declared.instr.Kind.{Kind}
-use Rattle.s66_isa.specs.declared.instr.Kind.TheVariants.{Boolean, Shift, Add, LongAdd, Multiply, Divide, Increment}
-use Rattle.s66_line.proofs.NoLineEnds.{one-line}
-use Rattle.s66_line.proofs.Wholes.{every-append}
-use Rattle.s66_model.specs.declared.rule.Rule.{Rule}
-use Rattle.s66_model.specs.Leaves.{Whole, Chain, Load, Parcels}
-use Rattle.s66_model.specs.Trees.{Tree, Alone, Parted, Siblings, NoMore, Unsplit, Split, Vertex, AtTerminal, AtSplit, flat, flat_siblings}
-use Rattle.s66_model.specs.DominatedLeaves.{Ending, Bounding, Dominated, Factual}
-use Rattle.s66_model.specs.FactLeaves.{Next, Turned, AtLine, LoadFrom}
-use Rattle.s66_moments.specs.declared.moment.Stage.TheVariants.{Issue, Start, Done, Free}
-use Rattle.s66_moments.specs.declared.moment.Moment.{Moment}
-use Rattle.s66_moments.specs.declared.moment.Moment.TheVariants.{Origin, At}
+use Rattle.std.proofs.Common.{Option, None, Some, ◌<◌, ◌≤◌, ◌^◌, ℕ, List, [], ◌∷◌, ◌++◌, map, refl, arith, codes, decimal}
+use Rattle.s66_isa.specs.{after_blanks, Kind, Boolean, Shift, Add, LongAdd, Multiply, Divide, Increment, kind_name}
+use Rattle.s66_model.specs.{Rule, Whole, Chain, Load, Parcels, Tree, Alone, Parted, Siblings, NoMore, Unsplit, Split, Vertex, AtTerminal, AtSplit, flat, flat_siblings, Ending, Bounding, Dominated}
+use Rattle.s66_model.specs.{Factual, Next, Turned, AtLine, LoadFrom}
+use Rattle.s66_moments.specs.{Issue, Start, Done, Free, Moment, Origin, At, FactLine, FactStep, IsMomentWithin}
 use Rattle.s66_moments.specs.declared.moment.Moment.TheVariants as moment
-use Rattle.s66_moments.specs.declared.fact_line.FactLine.{FactLine}
-use Rattle.s66_moments.specs.declared.fact_line.FactStep.{FactStep}
 use Rattle.s66_moments.specs.declared.fact_line.FactStep.TheVariants as step
 use Rattle.s66_moments.specs.declared.fact_line.FactLine.TheVariants as fact
-use Rattle.s66_moments.specs.KnownFacts.{IsMomentWithin}
-use Rattle.s66_cert.specs.Documents.{Document, IsDocumentWithin, AreDocumentsWithin, IsTextWithin, AreIn, AreInstructions, AreNumbers, IsFactLine, IsFactStep, AreFactSteps, AreFacts, IsLeafLine, SiblingsFit, TreeFits, moment_text}
-use Rattle.s66_isa.specs.KindNames.{kind_name}
-use Rattle.s66_cert.specs.Faults.{IsLine, HaveNoNewline}
-use Rattle.s66_cert.specs.Lines.{DocumentLine, Header, Profile, Block, Instruction, Time, Bound, Order, OfFact, OfTree, End, line_bytes, IsLineInRange}
+use Rattle.s66_line.proofs.NoLineEnds.{one-line}
+use Rattle.s66_line.proofs.Wholes.{every-append}
+use Rattle.s66_cert.specs.{Document, IsDocumentWithin, AreDocumentsWithin, IsTextWithin, AreIn, AreInstructions, AreNumbers, IsFactLine, IsFactStep, AreFactSteps, AreFacts, IsLeafLine, SiblingsFit}
+use Rattle.s66_cert.specs.{TreeFits, moment_text, IsLine, HaveNoNewline, DocumentLine, Header, Profile, Block, Instruction, Time, Bound, Order, OfFact, OfTree, End, line_bytes, IsLineInRange, Version}
+use Rattle.s66_cert.specs.{BoundsAlone, EarlierNodes, StandingNodes, FactLines, Suppositions, version, version_number}
 use Rattle.s66_cert.proofs.DocumentLines.{documents_lines, document_lines, open_lines, instructions_of, steps_of, facts_of, vertices_of}
-use Rattle.s66_cert.specs.declared.version.Version.{Version}
-use Rattle.s66_cert.specs.declared.version.Version.TheVariants.{BoundsAlone, EarlierNodes, StandingNodes, FactLines, Suppositions}
-use Rattle.s66_cert.specs.Versions.{version, version_number}
 use Rattle.s66_cert.proofs.NumberTexts.{decimal-clear}
 
 -- NO NEWLINE IN A LINE

@@ -1,35 +1,20 @@
 -- Each line is read as what it is written, and nothing else is read.
-use Rattle.std.proofs.Common.{◌≡◌, ◌≤◌, ◌<◌, ◌+◌, ◌^◌, ◌&&◌, ℕ, Bool, true, false, List, [], ◌∷◌, ◌++◌, length, Option, None, Some, refl, sym, ap, ◌∙◌, arith, cond, leb, eqb, le-leb, leb-true, append_assoc}
-use Rattle.std.proofs.lemmas.Bool.{and_parts, and_from, cond-true, eqb-true}
+use Rattle.std.proofs.Common.{◌≡◌, ◌≤◌, ◌<◌, ◌+◌, ◌^◌, ◌&&◌, ℕ, Bool, true, false, List, [], ◌∷◌, ◌++◌, length, Option, None, Some, refl, sym, ap, ◌∙◌, arith, cond, leb, eqb, le-leb, leb-true}
+use Rattle.std.proofs.Common.{append_assoc, eqb-true, append-nil, option_map, codes, decimal, bytes_eq}
+use Rattle.std.proofs.lemmas.Bool.{and_parts, and_from, cond-true}
 use Rattle.std.proofs.lemmas.Fmt.{decimal_digit}
 use Rattle.std.proofs.lemmas.Option.{cond_some}
-use Rattle.std.proofs.lemmas.List.{append-nil}
 use Rattle.std.proofs.lemmas.Slice.Eq.{bytes_eq-Decides}
-use Rattle.std.specs.Option.{option_map}
-use Rattle.std.specs.Prelude.{codes, decimal}
-use Rattle.std.specs.Str.{bytes_eq}
-use Rattle.s66_isa.specs.Lists.{after_blanks}
-use Rattle.s66_isa.specs.declared.instr.Kind.{Kind}
-use Rattle.s66_isa.specs.declared.instr.Kind.TheVariants.{Boolean, Shift, Add, LongAdd, Multiply, Divide, Increment}
-use Rattle.s66_cert.specs.declared.version.Version.{Version}
-use Rattle.s66_cert.specs.declared.version.Version.TheVariants.{BoundsAlone, EarlierNodes, StandingNodes, FactLines, Suppositions}
-use Rattle.s66_cert.specs.Versions.{version_number}
-use Rattle.s66_model.specs.Leaves.{Whole, Chain, Load, Parcels}
-use Rattle.s66_model.specs.Trees.{AtTerminal, AtSplit}
-use Rattle.s66_model.specs.DominatedLeaves.{Bounding, Dominated, Factual}
-use Rattle.s66_model.specs.FactLeaves.{Next, Turned, AtLine, LoadFrom}
-use Rattle.s66_moments.specs.declared.moment.Stage.TheVariants.{Issue, Start, Done, Free}
-use Rattle.s66_moments.specs.declared.moment.Moment.{Moment}
-use Rattle.s66_moments.specs.declared.moment.Moment.TheVariants.{Origin, At}
+use Rattle.s66_isa.specs.{after_blanks, Kind, Boolean, Shift, Add, LongAdd, Multiply, Divide, Increment, kind_name, PROFILE_LENGTH, PROFILE_LIMIT}
+use Rattle.s66_model.specs.{Whole, Chain, Load, Parcels, AtTerminal, AtSplit, Bounding, Dominated, Factual, Next, Turned, AtLine, LoadFrom}
+use Rattle.s66_moments.specs.{Issue, Start, Done, Free, Moment, Origin, At, is_front, is_back, IsMomentWithin}
 use Rattle.s66_moments.specs.declared.moment.Moment.TheVariants as moment
 use Rattle.s66_moments.specs.declared.fact_line.FactLine.TheVariants as fact
 use Rattle.s66_moments.specs.declared.fact_line.FactStep.TheVariants as step
-use Rattle.s66_moments.specs.KnownFacts.{is_front, is_back, IsMomentWithin}
-use Rattle.s66_cert.specs.Documents.{AreIn, AreNumbers, moment_text}
-use Rattle.s66_isa.specs.KindNames.{kind_name}
-use Rattle.s66_isa.specs.declared.limits.TheConstants.{PROFILE_LENGTH, PROFILE_LIMIT}
-use Rattle.s66_cert.specs.declared.limits.TheConstants.{TIME_LIMIT, LINE_LIMIT}
-use Rattle.s66_cert.specs.Lines.{DocumentLine, Header, Profile, Block, Instruction, Time, Bound, Order, OfFact, OfTree, End, line_bytes, IsLineInRange, first_word, after_first_word, word_in, rest_in, words_in, numbers_in, number_in, if_count, block_numbers, two_numbers, pair_with, one_number, stage_in, front_in, back_in, load_with, load_after, load_in, load_from_with, load_from_in, is_instruction_text, instruction_in, kind_in, alone, header_in, line_with, line_read}
+use Rattle.s66_cert.specs.{Version, BoundsAlone, EarlierNodes, StandingNodes, FactLines, Suppositions, version_number, AreIn, AreNumbers, moment_text, TIME_LIMIT, LINE_LIMIT, DocumentLine, Header}
+use Rattle.s66_cert.specs.{Profile, Block, Instruction, Time, Bound, Order, OfFact, OfTree, End, line_bytes, IsLineInRange, first_word, after_first_word, word_in, rest_in, words_in, numbers_in}
+use Rattle.s66_cert.specs.{number_in, if_count, block_numbers, two_numbers, pair_with, one_number, stage_in, front_in, back_in, load_with, load_after, load_in, load_from_with, load_from_in}
+use Rattle.s66_cert.specs.{is_instruction_text, instruction_in, kind_in, alone, header_in, line_with, line_read}
 use Rattle.s66_cert.proofs.NumberTexts.{number-again, number-is}
 use Rattle.s66_cert.proofs.Spelled.{instruction-again, instruction-is}
 use Rattle.s66_cert.proofs.Words.{IsWord, tail_of, joined, first-before, after-before, decimal-word, words-after_blanks, numbers-again, numbers-are}

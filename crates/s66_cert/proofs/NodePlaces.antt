@@ -1,13 +1,10 @@
 -- Where the trees of lines end, and the way from a line to its child of a number.
-use Rattle.std.proofs.Common.{◌≡◌, ◌⊎◌, inl, inr, ℕ, zero, suc, ◌+◌, ◌<◌, ◌≤◌, List, [], ◌∷◌, length, drop, get_or, set, None, Some, refl, sym, ap, ◌∙◌, subst, arith, eq-eqb}
-use Rattle.std.proofs.lemmas.Bool.{ne_eqb, cases_lt, cases_eq}
-use Rattle.std.proofs.lemmas.List.{drop_all, get_or_default, get_or_past, length-set, get_or-set_same, get_or-set_other, length-drop}
-use Rattle.s66_model.specs.Trees.{Siblings, NoMore, Unsplit, Split, Vertex, AtTerminal, AtSplit}
-use Rattle.s66_model.specs.DominatedLeaves.{Ending}
-use Rattle.s66_model.specs.NodeNames.{sibling_at, node_named}
-use Rattle.s66_model.specs.Preorder.{first_siblings, later_siblings, forest}
-use Rattle.s66_cert.specs.DocumentParts.{tree_of_lines}
-use Rattle.s66_cert.specs.NodePlaces.{trees_from, IsEnd, AreTreeEnds, end_behind, sibling_count, tree_at, IsChildAt}
+use Rattle.std.proofs.Common.{◌≡◌, ◌⊎◌, inl, inr, ℕ, zero, suc, ◌+◌, ◌<◌, ◌≤◌, List, [], ◌∷◌, length, drop, get_or, set, None, Some, refl, sym, ap, ◌∙◌, subst, arith, eq-eqb, ne_eqb, length-set}
+use Rattle.std.proofs.Common.{get_or-set_same, get_or-set_other, length-drop}
+use Rattle.std.proofs.lemmas.Bool.{cases_lt, cases_eq}
+use Rattle.std.proofs.lemmas.List.{drop_all, get_or_default, get_or_past}
+use Rattle.s66_model.specs.{Siblings, NoMore, Unsplit, Split, Vertex, AtTerminal, AtSplit, Ending, sibling_at, node_named, first_siblings, later_siblings, forest}
+use Rattle.s66_cert.specs.{tree_of_lines, trees_from, IsEnd, AreTreeEnds, end_behind, sibling_count, tree_at, IsChildAt}
 
 -- TREES BEHIND OTHERS
 

@@ -1,14 +1,14 @@
 -- A number is read as what it is written.
-use Rattle.std.proofs.Common.{◌≡◌, ◌≤◌, ◌<◌, ◌^◌, ◌&&◌, ℕ, zero, suc, Bool, true, false, not, List, [], ◌∷◌, length, get_or, Some, refl, sym, ap, ◌∙◌, arith, leb, eqb, le-leb, leb-true}
-use Rattle.std.proofs.lemmas.Bool.{not-true, and_parts, and_from, ne_eqb, eqb-false, not_from_false}
+use Rattle.std.specs.Int.{IsInRange}
+use Rattle.std.proofs.Common.{◌≡◌, ◌≤◌, ◌<◌, ◌^◌, ◌&&◌, ℕ, zero, suc, Bool, true, false, not, List, [], ◌∷◌, length, get_or, Some, refl, sym, ap, ◌∙◌, arith, leb, eqb, le-leb, leb-true, ne_eqb}
+use Rattle.std.proofs.Common.{decimal}
+use Rattle.std.proofs.lemmas.Bool.{not-true, and_parts, and_from, eqb-false, not_from_false}
 use Rattle.std.proofs.lemmas.Option.{cond_some}
 use Rattle.std.proofs.lemmas.Fmt.{digits_decimal, digits_value-decimal, decimal_nonempty, first_decimal, decimal_digit, decimal-digits_value}
 use Rattle.std.proofs.lemmas.Str.Parse.{IsDigitsTest, FoldsDigits, IsNumeralModel, numerals_by_fold}
-use Rattle.std.specs.Int.{IsInRange}
-use Rattle.std.specs.Prelude.{decimal}
-use Rattle.s66_isa.specs.Lists.{every}
-use Rattle.s66_line.specs.Characters.{is_decimal}
-use Rattle.s66_cert.specs.Lines.{value_after, has_no_leading_zero, is_number, number_in}
+use Rattle.s66_isa.specs.{every}
+use Rattle.s66_line.specs.{is_decimal}
+use Rattle.s66_cert.specs.{value_after, has_no_leading_zero, is_number, number_in}
 
 -- DIGITS
 

@@ -1,12 +1,7 @@
 -- Each text is the text of documents or has one fault.
-use Rattle.std.proofs.Common.{◌≡◌, ◌⊎◌, inl, inr, ℕ, List, refl, sym, ◌∙◌, arith}
-use Rattle.std.specs.Prelude.{Result, Ok, Err}
-use Rattle.s66_isa.specs.declared.limits.TheConstants.{BLOCK_LIMIT}
-use Rattle.s66_cert.specs.Documents.{Document, IsText}
-use Rattle.s66_cert.specs.Faults.{IsFault}
-use Rattle.s66_cert.specs.Reading.{read_of}
-use Rattle.s66_cert.specs.declared.error.CertError.{CertError}
-use Rattle.s66_cert.specs.declared.limits.TheConstants.{SPLIT_LIMIT}
+use Rattle.std.proofs.Common.{◌≡◌, ◌⊎◌, inl, inr, ℕ, List, refl, sym, ◌∙◌, arith, Result, Ok, Err}
+use Rattle.s66_isa.specs.{BLOCK_LIMIT}
+use Rattle.s66_cert.specs.{Document, IsText, IsFault, read_of, CertError, SPLIT_LIMIT}
 use Rattle.s66_cert.proofs.FirstFault.{fault-is, fault-only}
 use Rattle.s66_cert.proofs.RoundTrip.{read-again}
 use Rattle.s66_cert.proofs.Sound.{read-sound}

@@ -1,8 +1,6 @@
 -- A text is read in one way.
-use Rattle.std.proofs.Common.{◌≡◌, ◌<◌, ◌^◌, ◌+◌, ℕ, max, List, [], ◌∷◌, ◌++◌, refl, sym, ap, ◌∙◌, arith}
-use Rattle.std.specs.Prelude.{Result, Ok}
-use Rattle.s66_cert.specs.Documents.{Document, IsDocumentWithin, IsTextWithin, document_text, documents_text}
-use Rattle.s66_cert.specs.declared.error.CertError.{CertError}
+use Rattle.std.proofs.Common.{◌≡◌, ◌<◌, ◌^◌, ◌+◌, ℕ, max, List, [], ◌∷◌, ◌++◌, refl, sym, ap, ◌∙◌, arith, Result, Ok}
+use Rattle.s66_cert.specs.{Document, IsDocumentWithin, IsTextWithin, document_text, documents_text, CertError}
 use Rattle.s66_cert.proofs.RoundTrip.{read-again}
 use Rattle.s66_cert.proofs.InRange.{wide-documents}
 

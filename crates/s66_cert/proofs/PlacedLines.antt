@@ -1,14 +1,10 @@
 -- The lines of a tree with their prefixes, and the way from a line down to the one at a place (`line_at`).
-use Rattle.std.proofs.Common.{◌≡◌, ℕ, zero, suc, ◌+◌, ◌-◌, ◌<◌, ◌≤◌, List, [], ◌∷◌, ◌++◌, length, drop, slice_get, None, Some, refl, sym, ap, ◌∙◌, arith, length-append}
-use Rattle.std.proofs.lemmas.List.{drop_all, length-drop}
-use Rattle.s66_isa.specs.declared.limits.TheConstants.{BLOCK_LIMIT}
-use Rattle.s66_model.specs.Trees.{Tree, Alone, Parted, Siblings, NoMore, Unsplit, Split, Vertex, AtTerminal, AtSplit, flat_siblings}
-use Rattle.s66_model.specs.DominatedLeaves.{Ending}
-use Rattle.s66_model.specs.Preorder.{first_siblings, later_siblings, forest}
+use Rattle.std.proofs.Common.{◌≡◌, ℕ, zero, suc, ◌+◌, ◌-◌, ◌<◌, ◌≤◌, List, [], ◌∷◌, ◌++◌, length, drop, slice_get, None, Some, refl, sym, ap, ◌∙◌, arith, length-append, length-drop}
+use Rattle.std.proofs.lemmas.List.{drop_all}
+use Rattle.s66_isa.specs.{BLOCK_LIMIT}
+use Rattle.s66_model.specs.{Tree, Alone, Parted, Siblings, NoMore, Unsplit, Split, Vertex, AtTerminal, AtSplit, flat_siblings, Ending, first_siblings, later_siblings, forest}
 use Rattle.s66_model.proofs.Forests.{flat-forest}
-use Rattle.s66_cert.specs.Documents.{siblings_placed, tree_placed}
-use Rattle.s66_cert.specs.DocumentParts.{tree_of_lines}
-use Rattle.s66_cert.specs.NodePlaces.{trees_from, IsEnd, tree_at, placed_at, IsBelow, IsLineAt}
+use Rattle.s66_cert.specs.{siblings_placed, tree_placed, tree_of_lines, trees_from, IsEnd, tree_at, placed_at, IsBelow, IsLineAt}
 
 -- WHAT IS AT A PLACE OF TWO LISTS
 

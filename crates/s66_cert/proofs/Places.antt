@@ -1,19 +1,11 @@
 -- A line of a document where none of its kind may come is refused, and what is known of a reader at each place.
-use Rattle.std.proofs.Common.{◌≡◌, ◌≤◌, ◌+◌, ◌*◌, ◌^◌, ℕ, zero, suc, true, false, List, [], ◌∷◌, length, refl, arith, subst}
-use Rattle.std.specs.Prelude.{Err}
-use Rattle.s66_isa.specs.declared.limits.TheConstants.{BLOCK_LIMIT}
-use Rattle.s66_model.specs.Trees.{Vertex, AtTerminal, AtSplit}
-use Rattle.s66_model.specs.DominatedLeaves.{Ending, Bounding, Dominated, Factual}
-use Rattle.s66_moments.specs.declared.fact_line.FactStep.{FactStep}
-use Rattle.s66_cert.specs.declared.version.Version.{Version}
-use Rattle.s66_cert.specs.Fine.{Leave, split_count, IsPart, IsFine}
-use Rattle.s66_cert.specs.Lines.{Header, Profile, Block, Instruction, Time, Bound, Order, OfFact, OfTree, End}
-use Rattle.s66_cert.specs.DocumentParts.{AreWhole}
-use Rattle.s66_cert.specs.Reading.{DocumentState, is_leaf_of, wants_dominated, wants_supposition, is_wanting, step_at}
-use Rattle.s66_cert.specs.declared.limits.TheConstants.{SPLIT_LIMIT}
-use Rattle.s66_cert.specs.declared.error.CertError.TheVariants.{BadLine}
-use Rattle.s66_cert.specs.declared.document_place.DocumentPlace.{DocumentPlace}
-use Rattle.s66_cert.specs.declared.document_place.DocumentPlace.TheVariants.{AtHeader, AtProfile, AtBlock, AtInstruction, AtTime, AtBound, AtOrder, AtTree, AtEnd}
+use Rattle.std.proofs.Common.{◌≡◌, ◌≤◌, ◌+◌, ◌*◌, ◌^◌, ℕ, zero, suc, true, false, List, [], ◌∷◌, length, refl, arith, subst, Err}
+use Rattle.s66_isa.specs.{BLOCK_LIMIT}
+use Rattle.s66_model.specs.{Vertex, AtTerminal, AtSplit, Ending, Bounding, Dominated, Factual}
+use Rattle.s66_moments.specs.{FactStep}
+use Rattle.s66_cert.specs.{Version, Leave, split_count, IsPart, IsFine, Header, Profile, Block, Instruction, Time, Bound, Order, OfFact, OfTree, End, AreWhole, DocumentState, is_leaf_of}
+use Rattle.s66_cert.specs.{wants_dominated, wants_supposition, is_wanting, step_at, SPLIT_LIMIT, BadLine, DocumentPlace, AtHeader, AtProfile, AtBlock, AtInstruction, AtTime, AtBound, AtOrder, AtTree}
+use Rattle.s66_cert.specs.{AtEnd}
 use Rattle.s66_cert.proofs.Sound.{whole-tree, whole-document, neither}
 
 pub other_header : (most : ℕ) (s : DocumentState) (place : DocumentPlace) (version : Version) → (place ≡ AtHeader → ⊥) → step_at most s place (Header version) ≡ Err (BadLine (suc s.count))

@@ -1,26 +1,14 @@
 -- Whatever was read without a fault begins some text of documents, and what begins one is read without a fault.
-use Rattle.std.proofs.Common.{◌≡◌, ◌-◌, ℕ, zero, suc, is_some, List, [], ◌∷◌, ◌++◌, map, refl, sym, ap, ◌∙◌, arith, subst}
-use Rattle.std.proofs.lemmas.List.{append-nil, map-append}
-use Rattle.std.specs.Prelude.{Result, Ok, Err, codes}
-use Rattle.s66_isa.specs.declared.limits.TheConstants.{BLOCK_LIMIT}
-use Rattle.s66_cert.specs.declared.version.Version.{Version}
-use Rattle.s66_cert.specs.declared.version.Version.TheVariants.{BoundsAlone}
-use Rattle.s66_model.specs.Leaves.{Whole}
-use Rattle.s66_model.specs.Trees.{AtTerminal}
-use Rattle.s66_model.specs.DominatedLeaves.{Bounding}
-use Rattle.s66_line.specs.InstructionText.{IsInstruction}
+use Rattle.std.proofs.Common.{◌≡◌, ◌-◌, ℕ, zero, suc, is_some, List, [], ◌∷◌, ◌++◌, map, refl, sym, ap, ◌∙◌, arith, subst, append-nil, Result, Ok, Err, codes}
+use Rattle.std.proofs.lemmas.List.{map-append}
+use Rattle.s66_isa.specs.{BLOCK_LIMIT}
+use Rattle.s66_model.specs.{Whole, AtTerminal, Bounding}
+use Rattle.s66_line.specs.{IsInstruction, with_newlines}
 use Rattle.s66_line.proofs.InstructionTexts.{instruction}
-use Rattle.s66_cert.specs.Documents.{Document, text_headed, documents_text}
-use Rattle.s66_cert.specs.Examples.{standard_numbers}
-use Rattle.s66_cert.specs.Faults.{HaveNoNewline, BeginsWithin}
-use Rattle.s66_line.specs.Fields.{with_newlines}
-use Rattle.s66_cert.specs.Fine.{HasTree, IsPart}
-use Rattle.s66_cert.specs.Lines.{DocumentLine, Header, Profile, Block, Instruction, Time, Bound, Order, OfTree, line_bytes, IsLineInRange}
-use Rattle.s66_cert.specs.DocumentParts.{Parts, document_of}
-use Rattle.s66_cert.specs.Reading.{nothing, first_facts, DocumentState, first_state, place_of_instruction, place_of_tree, with_vertex, step_at, step, and_then, steps, whole_lines}
-use Rattle.s66_cert.specs.declared.error.CertError.{CertError}
-use Rattle.s66_cert.specs.declared.document_place.DocumentPlace.{DocumentPlace}
-use Rattle.s66_cert.specs.declared.document_place.DocumentPlace.TheVariants.{AtHeader, AtProfile, AtBlock, AtInstruction, AtTime, AtBound, AtOrder, AtTree, AtEnd}
+use Rattle.s66_cert.specs.{Version, BoundsAlone, Document, text_headed, documents_text, standard_numbers, HaveNoNewline, BeginsWithin, HasTree, IsPart, DocumentLine, Header, Profile, Block}
+use Rattle.s66_cert.specs.{Instruction, Time, Bound, Order, OfTree, line_bytes, IsLineInRange, Parts, document_of, nothing, first_facts, DocumentState, first_state, place_of_instruction}
+use Rattle.s66_cert.specs.{place_of_tree, with_vertex, step_at, step, and_then, steps, whole_lines, CertError, DocumentPlace, AtHeader, AtProfile, AtBlock, AtInstruction, AtTime, AtBound, AtOrder}
+use Rattle.s66_cert.specs.{AtTree, AtEnd}
 use Rattle.s66_cert.proofs.DocumentLines.{documents_lines, open_lines}
 use Rattle.s66_cert.proofs.TextLines.{whole-of, whole-all, newlines-append, open-text, documents-text}
 use Rattle.s66_cert.proofs.Heads.{read-under}

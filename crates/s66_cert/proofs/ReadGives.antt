@@ -1,14 +1,7 @@
 -- What reading gives, in the words of documents and faults.
-use Rattle.std.proofs.Common.{ℕ, List, refl}
-use Rattle.std.specs.Prelude.{Result, Ok, Err, IfOk}
-use Rattle.s66_isa.specs.declared.limits.TheConstants.{BLOCK_LIMIT}
-use Rattle.s66_cert.specs.declared.limits.TheConstants.{SPLIT_LIMIT}
-use Rattle.s66_cert.specs.Documents.{Document, IsText}
-use Rattle.s66_cert.specs.Reading.{read_of}
-use Rattle.s66_cert.specs.Reads.{RefusesText}
-use Rattle.s66_cert.specs.DocumentReader.{Gives}
-use Rattle.s66_cert.specs.declared.error.CertError.{CertError}
-use Rattle.s66_cert.specs.declared.error.CertError.TheVariants.{BadLine, Truncated, TooManyNodes, OutOfMemory}
+use Rattle.std.proofs.Common.{ℕ, List, refl, Result, Ok, Err, IfOk}
+use Rattle.s66_isa.specs.{BLOCK_LIMIT}
+use Rattle.s66_cert.specs.{SPLIT_LIMIT, Document, IsText, read_of, RefusesText, Gives, CertError, BadLine, Truncated, TooManyNodes, OutOfMemory}
 use Rattle.s66_cert.proofs.FirstFault.{fault-is}
 use Rattle.s66_cert.proofs.Sound.{read-sound}
 

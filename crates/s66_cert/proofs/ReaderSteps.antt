@@ -1,17 +1,10 @@
 -- What a reader read stays in range, and its lines are those of the text.
-use Rattle.std.proofs.Common.{◌≡◌, ◌≤◌, ◌<◌, ◌+◌, ◌-◌, ℕ, suc, false, List, [], ◌∷◌, length, take, drop, get_or, refl, sym, ap, ◌∙◌, arith, eqb, drop-cons}
-use Rattle.std.proofs.lemmas.Bool.{ne_eqb}
-use Rattle.std.specs.Prelude.{Result, Ok, Err, OnOk}
-use Rattle.s66_isa.specs.declared.limits.TheConstants.{BLOCK_LIMIT}
-use Rattle.s66_cert.specs.Fine.{IsFine}
-use Rattle.s66_cert.specs.Lines.{DocumentLine, IsLineInRange}
-use Rattle.s66_cert.specs.Reading.{DocumentState, step_at, step, steps, and_then, whole_lines, last_bytes}
-use Rattle.s66_cert.specs.DocumentReader.{Steps}
-use Rattle.s66_cert.specs.declared.limits.TheConstants.{SPLIT_LIMIT}
-use Rattle.s66_cert.specs.declared.error.CertError.{CertError}
+use Rattle.std.proofs.Common.{◌≡◌, ◌≤◌, ◌<◌, ◌+◌, ◌-◌, ℕ, suc, false, List, [], ◌∷◌, length, take, drop, get_or, refl, sym, ap, ◌∙◌, arith, eqb, drop-cons, ne_eqb, Result, Ok, Err, OnOk}
+use Rattle.s66_isa.specs.{BLOCK_LIMIT}
+use Rattle.s66_line.proofs.SignCuts.{one_more}
+use Rattle.s66_cert.specs.{IsFine, DocumentLine, IsLineInRange, DocumentState, step_at, step, steps, and_then, whole_lines, last_bytes, Steps, SPLIT_LIMIT, CertError}
 use Rattle.s66_cert.proofs.FirstFault.{outcome-at, ok-count}
 use Rattle.s66_cert.proofs.Sound.{step-fine}
-use Rattle.s66_line.proofs.SignCuts.{one_more}
 
 pub fine-kept : (s new : DocumentState) (result : Result (Unit {0}) CertError) (l : DocumentLine) → IsLineInRange BLOCK_LIMIT l → IsFine SPLIT_LIMIT s → Steps new result (step_at SPLIT_LIMIT s s.place l) → OnOk result (IsFine SPLIT_LIMIT new)
 fine-kept s new (Ok u) l is fine made = step-fine SPLIT_LIMIT s new l is fine made

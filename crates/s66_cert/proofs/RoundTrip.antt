@@ -1,13 +1,8 @@
 -- What is a text of documents is read as these documents.
-use Rattle.std.proofs.Common.{◌≡◌, ◌<◌, ◌^◌, ℕ, List, [], ◌++◌, map, refl, sym, ap, ◌∙◌}
-use Rattle.std.proofs.lemmas.List.{append-nil}
-use Rattle.std.specs.Prelude.{Ok}
-use Rattle.s66_cert.specs.Documents.{Document, IsTextWithin}
+use Rattle.std.proofs.Common.{◌≡◌, ◌<◌, ◌^◌, ℕ, List, [], ◌++◌, map, refl, sym, ap, ◌∙◌, append-nil, Ok}
+use Rattle.s66_line.specs.{with_newlines}
+use Rattle.s66_cert.specs.{Document, IsTextWithin, HaveNoNewline, line_bytes, first_state, steps, whole_lines, last_bytes, read_within}
 use Rattle.s66_cert.proofs.DocumentLines.{documents_lines}
-use Rattle.s66_cert.specs.Faults.{HaveNoNewline}
-use Rattle.s66_line.specs.Fields.{with_newlines}
-use Rattle.s66_cert.specs.Lines.{line_bytes}
-use Rattle.s66_cert.specs.Reading.{first_state, steps, whole_lines, last_bytes, read_within}
 use Rattle.s66_cert.proofs.TextLines.{documents-text, whole-all, last-all}
 use Rattle.s66_cert.proofs.Grammar.{documents-run}
 use Rattle.s66_cert.proofs.InRange.{lines-of-documents}

@@ -1,11 +1,9 @@
 -- Words of few digits give numbers that fit, and those of more are refused (`number_in`).
-use Rattle.std.proofs.Common.{◌≡◌, ◌≤◌, ◌<◌, ◌+◌, ◌^◌, ℕ, zero, suc, Bool, true, false, List, [], ◌∷◌, ◌++◌, length, Option, None, Some, refl, sym, ap, ◌∙◌, arith, leb, eqb, le-leb, length-append, append_assoc}
-use Rattle.std.proofs.lemmas.Bool.{lt-leb, leb-true, leb-false}
+use Rattle.std.proofs.Common.{◌≡◌, ◌≤◌, ◌<◌, ◌+◌, ◌^◌, ℕ, zero, suc, Bool, true, false, List, [], ◌∷◌, ◌++◌, length, Option, None, Some, refl, sym, ap, ◌∙◌, arith, leb, eqb, le-leb, length-append}
+use Rattle.std.proofs.Common.{append_assoc, leb-true, leb-false, decimal, append-nil}
+use Rattle.std.proofs.lemmas.Bool.{lt-leb}
 use Rattle.std.proofs.lemmas.Fmt.{length-decimal-le}
-use Rattle.std.specs.Prelude.{decimal}
-use Rattle.s66_cert.specs.Lines.{if_count, number_in, numbers_in, first_word, after_first_word, words_of, words_in, put_front, consed, consed_if}
-use Rattle.s66_cert.specs.declared.limits.TheConstants.{LINE_LIMIT}
-use Rattle.std.proofs.lemmas.List.{append-nil}
+use Rattle.s66_cert.specs.{if_count, number_in, numbers_in, first_word, after_first_word, words_of, words_in, put_front, consed, consed_if, LINE_LIMIT}
 use Rattle.s66_cert.proofs.NumberTexts.{number-is}
 
 pub below-billion : (k v : ℕ) → k ≤ 9 → v < 10 ^ k → v < 1000000000

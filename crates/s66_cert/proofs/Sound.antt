@@ -1,42 +1,27 @@
 -- What is read as documents is the text of these documents.
-use Rattle.std.proofs.Common.{◌≡◌, ◌≤◌, ◌<◌, ◌+◌, ◌-◌, ◌&&◌, ◌||◌, ℕ, zero, suc, Bool, true, false, List, [], ◌∷◌, ◌++◌, inl, inr, length, map, Option, None, Some, is_some, refl, sym, ap, ◌∙◌, arith, cond, leb, eqb, append_assoc, subst, length-append}
-use Rattle.std.proofs.lemmas.Bool.{eqb-true, leb-false, ltb-true, and_parts}
-use Rattle.std.proofs.lemmas.List.{append-nil, map-append}
-use Rattle.std.specs.Prelude.{Result, Ok, Err}
-use Rattle.std.specs.Option.{option_map}
-use Rattle.s66_isa.specs.Lists.{every}
-use Rattle.s66_isa.specs.declared.limits.TheConstants.{BLOCK_LIMIT}
-use Rattle.s66_model.specs.declared.rule.Rule.{Rule}
-use Rattle.s66_model.specs.declared.rule.Rule.TheVariants.{NoneNamed}
-use Rattle.s66_model.specs.Leaves.{Whole}
-use Rattle.s66_model.specs.Trees.{Tree, Alone, Parted, Siblings, NoMore, Unsplit, Split, Vertex, AtTerminal, AtSplit, flat_siblings, flat, sibling_splits, splits}
-use Rattle.s66_model.specs.DominatedLeaves.{Ending, Bounding}
-use Rattle.s66_line.specs.InstructionText.{IsInstruction}
-use Rattle.s66_moments.specs.declared.fact_line.FactStep.{FactStep}
-use Rattle.s66_cert.specs.Documents.{Document, IsDocumentWithin, AreDocumentsWithin, AreNumbers, AreInstructions, IsFactStep, AreFactSteps, AreFacts, HasItsLeaves, IsLeafLine, SiblingsFit, TreeFits, IsTextWithin, documents_text}
-use Rattle.s66_cert.specs.Faults.{IsOpenWithin}
-use Rattle.s66_cert.specs.Lines.{DocumentLine, Header, Profile, Block, Instruction, Time, Bound, Order, OfFact, OfTree, End, line_bytes, IsLineInRange, line_read}
-use Rattle.s66_line.specs.Fields.{with_newlines}
-use Rattle.s66_cert.specs.DocumentParts.{Parts, document_of, tree_of_lines}
-use Rattle.s66_model.specs.Preorder.{forest, first_tree, first_siblings, later_siblings}
-use Rattle.s66_cert.specs.Reading.{nothing, headed, first_facts, is_step_of, wants_supposition, DocumentState, first_state, place_of_instruction, place_of_tree, with_vertex, is_leaf_of, has_room, takes_fact, with_fact, fact_step, wants_dominated, vertex_step, step_at, step_if, step, and_then, steps, ended, is_header, read_within, whole_lines, last_bytes}
-use Rattle.s66_cert.specs.declared.version.Version.{Version}
-use Rattle.s66_cert.specs.declared.version.Version.TheVariants.{BoundsAlone}
-use Rattle.s66_cert.specs.Versions.{may_suppose}
-use Rattle.s66_cert.specs.Fine.{Leave, split_count, AreOfVersion, HasProfile, HasTree, IsPart, IsFine}
+use Rattle.std.proofs.Common.{◌≡◌, ◌≤◌, ◌<◌, ◌+◌, ◌-◌, ◌&&◌, ◌||◌, ℕ, zero, suc, Bool, true, false, List, [], ◌∷◌, ◌++◌, inl, inr, length, map, Option, None, Some, is_some, refl, sym, ap, ◌∙◌, arith}
+use Rattle.std.proofs.Common.{cond, leb, eqb, append_assoc, subst, length-append, eqb-true, leb-false, ltb-true, append-nil, Result, Ok, Err, option_map}
+use Rattle.std.proofs.lemmas.Bool.{and_parts}
+use Rattle.std.proofs.lemmas.List.{map-append}
+use Rattle.s66_isa.specs.{every, BLOCK_LIMIT}
+use Rattle.s66_isa.proofs.Lists.{every-append}
+use Rattle.s66_model.specs.{Rule, NoneNamed, Whole, Tree, Alone, Parted, Siblings, NoMore, Unsplit, Split, Vertex, AtTerminal, AtSplit, flat_siblings, flat, sibling_splits, splits, Ending, Bounding}
+use Rattle.s66_model.specs.{forest, first_tree, first_siblings, later_siblings}
+use Rattle.s66_model.proofs.Forests.{flat-forest}
+use Rattle.s66_moments.specs.{FactStep}
+use Rattle.s66_line.specs.{IsInstruction, with_newlines}
+use Rattle.s66_cert.specs.{Document, IsDocumentWithin, AreDocumentsWithin, AreNumbers, AreInstructions, IsFactStep, AreFactSteps, AreFacts, HasItsLeaves, IsLeafLine, SiblingsFit, TreeFits}
+use Rattle.s66_cert.specs.{IsTextWithin, documents_text, IsOpenWithin, DocumentLine, Header, Profile, Block, Instruction, Time, Bound, Order, OfFact, OfTree, End, line_bytes, IsLineInRange, line_read}
+use Rattle.s66_cert.specs.{Parts, document_of, tree_of_lines, nothing, headed, first_facts, is_step_of, wants_supposition, DocumentState, first_state, place_of_instruction, place_of_tree, with_vertex}
+use Rattle.s66_cert.specs.{is_leaf_of, has_room, takes_fact, with_fact, fact_step, wants_dominated, vertex_step, step_at, step_if, step, and_then, steps, ended, is_header, read_within, whole_lines}
+use Rattle.s66_cert.specs.{last_bytes, Version, BoundsAlone, may_suppose, Leave, split_count, AreOfVersion, HasProfile, HasTree, IsPart, IsFine, FACT_LIMIT, CertError, BadLine, Truncated}
+use Rattle.s66_cert.specs.{TooManyNodes, DocumentPlace, AtHeader, AtProfile, AtBlock, AtInstruction, AtTime, AtBound, AtOrder, AtTree, AtEnd}
 use Rattle.s66_cert.proofs.DocumentLines.{open_lines, document_lines, documents_lines, instructions_of, steps_of, facts_of, vertices_of}
-use Rattle.s66_cert.specs.declared.limits.TheConstants.{FACT_LIMIT}
-use Rattle.s66_cert.specs.declared.error.CertError.{CertError}
-use Rattle.s66_cert.specs.declared.error.CertError.TheVariants.{BadLine, Truncated, TooManyNodes}
-use Rattle.s66_cert.specs.declared.document_place.DocumentPlace.{DocumentPlace}
-use Rattle.s66_cert.specs.declared.document_place.DocumentPlace.TheVariants.{AtHeader, AtProfile, AtBlock, AtInstruction, AtTime, AtBound, AtOrder, AtTree, AtEnd}
 use Rattle.s66_cert.proofs.LineTexts.{line-is}
 use Rattle.s66_cert.proofs.DominatedLines.{AreAllowed, leaves-whole, leaves-open}
 use Rattle.s66_cert.proofs.Heads.{version-is, head-own, head-plain, headed-fit, anew-fit, supposed-more}
-use Rattle.s66_model.proofs.Forests.{flat-forest}
 use Rattle.s66_cert.proofs.TextLines.{cut, documents-text}
 use Rattle.s66_cert.proofs.States.{at, place-instruction, place-tree}
-use Rattle.s66_isa.proofs.Lists.{every-append}
 
 -- TREES TO COME
 

@@ -1,13 +1,10 @@
 -- The test that a line of a document has the text of an instruction is right, either way.
-use Rattle.std.proofs.Common.{◌≡◌, ◌&&◌, ℕ, Bool, true, false, List, length, Option, None, Some, is_some, refl, ap, nat_le, le-leb, leb-true}
+use Rattle.std.proofs.Common.{◌≡◌, ◌&&◌, ℕ, Bool, true, false, List, length, Option, None, Some, is_some, refl, ap, nat_le, le-leb, leb-true, bytes_eq}
 use Rattle.std.proofs.lemmas.Bool.{and_parts}
 use Rattle.std.proofs.lemmas.Slice.Eq.{bytes_eq-Decides}
-use Rattle.std.specs.Str.{bytes_eq}
-use Rattle.s66_line.specs.InstructionText.{spelling, operation_in, operand_in, IsInstruction}
-use Rattle.s66_line.specs.Operand.{instr_of}
-use Rattle.s66_line.specs.declared.limits.TheConstants.{TEXT_LIMIT}
+use Rattle.s66_line.specs.{spelling, operation_in, operand_in, IsInstruction, instr_of, TEXT_LIMIT}
 use Rattle.s66_line.proofs.InstructionTexts.{instruction}
-use Rattle.s66_cert.specs.Lines.{is_instruction_text, instruction_in}
+use Rattle.s66_cert.specs.{is_instruction_text, instruction_in}
 
 pub instruction-again : (text : List ℕ) → IsInstruction text → is_instruction_text text ≡ true
 instruction-again text is =

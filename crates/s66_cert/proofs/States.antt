@@ -1,12 +1,7 @@
 -- Which kind of line the reader expects while instructions or trees are still to come.
-use Rattle.std.proofs.Common.{◌≡◌, ℕ, suc, List, arith, eqb}
-use Rattle.std.proofs.lemmas.Bool.{cond-false, ne_eqb}
-use Rattle.s66_cert.specs.declared.version.Version.{Version}
-use Rattle.s66_cert.specs.Documents.{Document}
-use Rattle.s66_cert.specs.DocumentParts.{Parts}
-use Rattle.s66_cert.specs.Reading.{DocumentState, place_of_instruction, place_of_tree}
-use Rattle.s66_cert.specs.declared.document_place.DocumentPlace.{DocumentPlace}
-use Rattle.s66_cert.specs.declared.document_place.DocumentPlace.TheVariants.{AtInstruction, AtTime, AtTree, AtEnd}
+use Rattle.std.proofs.Common.{◌≡◌, ℕ, suc, List, arith, eqb, ne_eqb}
+use Rattle.std.proofs.lemmas.Bool.{cond-false}
+use Rattle.s66_cert.specs.{Version, Document, Parts, DocumentState, place_of_instruction, place_of_tree, DocumentPlace, AtInstruction, AtTime, AtTree, AtEnd}
 
 abbrev pub at : Version → ℕ → List Document → DocumentPlace → Parts → ℕ → ℕ → DocumentState
 at version count documents place part left splits = record { count = count; documents = documents; place = place; version = version; part = part; left = left; splits = splits }

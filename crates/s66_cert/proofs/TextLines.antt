@@ -1,19 +1,13 @@
 -- A text is its lines with their newlines and what is left behind the last, and lines cut out of it are these.
-use Rattle.std.proofs.Common.{◌≡◌, ℕ, Bool, true, false, not, List, [], ◌∷◌, ◌++◌, map, length, refl, sym, ap, ◌∙◌, eqb, append_assoc}
-use Rattle.std.proofs.lemmas.Bool.{and_parts, and_from, not-true, eqb-true}
-use Rattle.std.proofs.lemmas.List.{append-nil, map-append}
-use Rattle.std.specs.Prelude.{Option, None, Some, codes, decimal}
-use Rattle.s66_isa.specs.Lists.{every, after_blanks}
-use Rattle.s66_model.specs.Trees.{Vertex, flat}
-use Rattle.s66_model.specs.DominatedLeaves.{Ending}
-use Rattle.s66_moments.specs.declared.fact_line.FactStep.{FactStep}
-use Rattle.s66_cert.specs.Documents.{Document, vertex_line, tree_lines, instructions_text, step_line, step_lines, facts_text, text_headed, document_text, documents_text}
-use Rattle.s66_cert.specs.declared.version.Version.{Version}
-use Rattle.s66_cert.specs.Versions.{version, version_number}
-use Rattle.s66_cert.specs.Faults.{IsLine, HaveNoNewline}
-use Rattle.s66_cert.specs.Lines.{DocumentLine, End, line_bytes}
-use Rattle.s66_line.specs.Fields.{with_newlines}
-use Rattle.s66_cert.specs.Reading.{whole_lines, last_bytes}
+use Rattle.std.proofs.Common.{◌≡◌, ℕ, Bool, true, false, not, List, [], ◌∷◌, ◌++◌, map, length, refl, sym, ap, ◌∙◌, eqb, append_assoc, eqb-true, append-nil, Option, None, Some, codes, decimal}
+use Rattle.std.proofs.lemmas.Bool.{and_parts, and_from, not-true}
+use Rattle.std.proofs.lemmas.List.{map-append}
+use Rattle.s66_isa.specs.{every, after_blanks}
+use Rattle.s66_model.specs.{Vertex, flat, Ending}
+use Rattle.s66_moments.specs.{FactStep}
+use Rattle.s66_line.specs.{with_newlines}
+use Rattle.s66_cert.specs.{Document, vertex_line, tree_lines, instructions_text, step_line, step_lines, facts_text, text_headed, document_text, documents_text, Version, version, version_number}
+use Rattle.s66_cert.specs.{IsLine, HaveNoNewline, DocumentLine, End, line_bytes, whole_lines, last_bytes}
 use Rattle.s66_cert.proofs.DocumentLines.{open_lines, document_lines, documents_lines, instructions_of, steps_of, facts_of, vertices_of}
 
 line-parts : (b : ℕ) (line : List ℕ) → IsLine (b ∷ line) → (eqb b 10 ≡ false) × IsLine line

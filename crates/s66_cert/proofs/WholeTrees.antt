@@ -1,15 +1,8 @@
 -- Lines are those of one whole tree exactly if they leave no tree to come.
-use Rattle.std.proofs.Common.{ℕ, zero, suc, ◌+◌, ◌≡◌, ◌≤◌, List, [], ◌∷◌, ◌++◌, length, arith, refl, sym, ap, subst, append_assoc}
-use Rattle.std.specs.Prelude.{◌↔◌, IsTrue, false}
-use Rattle.std.proofs.lemmas.List.{append-nil}
-use Rattle.s66_isa.specs.declared.limits.TheConstants.{BLOCK_LIMIT}
-use Rattle.s66_model.specs.DominatedLeaves.{Ending}
-use Rattle.s66_model.specs.Trees.{Tree, Alone, Parted, Siblings, NoMore, Unsplit, Split, Vertex, AtTerminal, AtSplit, flat, flat_siblings, splits as count_of}
-use Rattle.s66_cert.specs.Documents.{SiblingsFit, TreeFits}
-use Rattle.s66_cert.specs.DocumentParts.{tree_of_lines}
-use Rattle.s66_cert.specs.Fine.{Leave, split_count}
-use Rattle.s66_cert.specs.Lines.{IsVertex}
-use Rattle.s66_cert.specs.NodePlaces.{sibling_count}
+use Rattle.std.proofs.Common.{ℕ, zero, suc, ◌+◌, ◌≡◌, ◌≤◌, List, [], ◌∷◌, ◌++◌, length, arith, refl, sym, ap, subst, append_assoc, ◌↔◌, IsTrue, false, append-nil}
+use Rattle.s66_isa.specs.{BLOCK_LIMIT}
+use Rattle.s66_model.specs.{Ending, Tree, Alone, Parted, Siblings, NoMore, Unsplit, Split, Vertex, AtTerminal, AtSplit, flat, flat_siblings, splits as count_of}
+use Rattle.s66_cert.specs.{SiblingsFit, TreeFits, tree_of_lines, Leave, split_count, IsVertex, sibling_count}
 use Rattle.s66_cert.proofs.Sound.{whole-tree}
 
 -- these are the lines of one tree that a document may have, with at most this many splits

@@ -1,12 +1,9 @@
 -- Words of a line with one blank between two: cut at the blank, and put together again.
-use Rattle.std.proofs.Common.{◌≡◌, ◌≤◌, ◌<◌, ◌^◌, ℕ, Bool, true, false, List, [], ◌∷◌, ◌++◌, map, Option, None, Some, refl, sym, ap, ◌∙◌, arith, eqb}
-use Rattle.std.proofs.lemmas.Bool.{and_parts, not-true, eqb-true}
-use Rattle.std.proofs.lemmas.List.{append-nil}
 use Rattle.std.specs.Int.{IsInRange}
-use Rattle.std.specs.Prelude.{decimal}
-use Rattle.s66_isa.specs.Lists.{every, after_blanks}
-use Rattle.s66_cert.specs.Documents.{AreIn}
-use Rattle.s66_cert.specs.Lines.{first_word, after_first_word, put_front, words_of, words_in, number_in, numbers_in, consed_if}
+use Rattle.std.proofs.Common.{◌≡◌, ◌≤◌, ◌<◌, ◌^◌, ℕ, Bool, true, false, List, [], ◌∷◌, ◌++◌, map, Option, None, Some, refl, sym, ap, ◌∙◌, arith, eqb, eqb-true, append-nil, decimal}
+use Rattle.std.proofs.lemmas.Bool.{and_parts, not-true}
+use Rattle.s66_isa.specs.{every, after_blanks}
+use Rattle.s66_cert.specs.{AreIn, first_word, after_first_word, put_front, words_of, words_in, number_in, numbers_in, consed_if}
 use Rattle.s66_cert.proofs.NumberTexts.{is_other, number-again, number-is, decimal-clear}
 
 abbrev pub IsWord : List ℕ → Type 0

@@ -1,9 +1,9 @@
 -- Used by examples alone: texts of documents with lines changed.
 use Rattle.std.specs.Prelude.{ℕ, ◌-◌, ◌+◌, Bool, true, false, List, [], ◌∷◌, ◌++◌, codes, take, drop, replicate, Result, Ok, Err}
-use Rattle.s66_isa.specs.Lists.{every, after_blanks}
+use Rattle.s66_isa.specs.{every, after_blanks}
+use Rattle.s66_line.specs.{with_newlines}
 use Rattle.s66_cert.specs.Documents.{Document}
 use Rattle.s66_cert.specs.Examples.{three_multiplies_text, late_reader_text, by_facts_with, by_facts_text, by_supposition_with}
-use Rattle.s66_line.specs.Fields.{with_newlines}
 use Rattle.s66_cert.specs.Reading.{whole_lines, read_of}
 use Rattle.s66_cert.specs.declared.error.CertError.{CertError}
 use Rattle.s66_cert.specs.declared.error.CertError.TheVariants.{BadLine, Truncated, TooManyNodes, OutOfMemory}

@@ -1,14 +1,9 @@
 -- Used by contracts: a document as code stores it, its tree by its lines in preorder.
-use Rattle.std.specs.Prelude.{◌≡◌, ℕ, List, Option, Vec}
-use Rattle.std.specs.Option.{option_map}
+use Rattle.std.specs.Prelude.{◌≡◌, ℕ, List, Option, Vec, option_map}
 use Rattle.std.specs.declared.alloc.Global.{Global}
-use Rattle.s66_isa.specs.declared.limits.TheConstants.{BLOCK_LIMIT}
-use Rattle.s66_model.specs.declared.rule.Rule.{Rule}
-use Rattle.s66_model.specs.Leaves.{Whole}
-use Rattle.s66_model.specs.Trees.{Tree, Vertex, flat}
-use Rattle.s66_model.specs.DominatedLeaves.{Ending, Bounding}
-use Rattle.s66_model.specs.Preorder.{read_tree}
-use Rattle.s66_moments.specs.declared.fact_line.FactStep.{FactStep}
+use Rattle.s66_isa.specs.{BLOCK_LIMIT}
+use Rattle.s66_model.specs.{Rule, Whole, Tree, Vertex, flat, Ending, Bounding, read_tree}
+use Rattle.s66_moments.specs.{FactStep}
 use Rattle.s66_cert.specs.Documents.{Document, IsDocument}
 
 abbrev pub facts_in : Option (Vec FactStep Global) → Option (List FactStep)

@@ -1,24 +1,12 @@
 -- To be believed: certificates as documents, with the ranges of their numbers and their trees, and their texts.
 use Rattle.std.specs.Prelude.{◌≡◌, ℕ, Bool, true, false, List, [], ◌∷◌, ◌++◌, ◌≤◌, Option, None, Some, codes, decimal, length}
-use Rattle.s66_model.specs.declared.rule.Rule.{Rule}
-use Rattle.s66_model.specs.declared.rule.Rule.TheVariants.{NoneNamed, WrittenEarlier, ClampedStanding}
-use Rattle.s66_model.specs.Leaves.{Whole, Chain, Load, Parcels}
-use Rattle.s66_model.specs.Trees.{Tree, Alone, Parted, Siblings, NoMore, Unsplit, Split, Vertex, AtTerminal, AtSplit, flat, splits}
-use Rattle.s66_model.specs.DominatedLeaves.{Ending, Bounding, Dominated, Factual}
-use Rattle.s66_model.specs.FactLeaves.{Next, Turned, AtLine, LoadFrom}
-use Rattle.s66_isa.specs.Lists.{some_of, after_blanks}
-use Rattle.s66_moments.specs.declared.moment.Stage.TheVariants.{Issue, Start, Done, Free}
-use Rattle.s66_moments.specs.declared.moment.Moment.{Moment}
-use Rattle.s66_moments.specs.declared.moment.Moment.TheVariants.{Origin, At, End}
-use Rattle.s66_moments.specs.declared.fact_line.FactLine.{FactLine}
+use Rattle.s66_isa.specs.{some_of, after_blanks, kind_name, PROFILE_LENGTH, PROFILE_LIMIT}
+use Rattle.s66_model.specs.{Rule, NoneNamed, WrittenEarlier, ClampedStanding, Whole, Chain, Load, Parcels, Tree, Alone, Parted, Siblings, NoMore, Unsplit, Split, Vertex, AtTerminal, AtSplit, flat}
+use Rattle.s66_model.specs.{splits, Ending, Bounding, Dominated, Factual, Next, Turned, AtLine, LoadFrom, has_dominated_line}
+use Rattle.s66_moments.specs.{Issue, Start, Done, Free, Moment, Origin, At, End, FactLine, FactStep, IsAnchored}
 use Rattle.s66_moments.specs.declared.fact_line.FactLine.TheVariants as fact
-use Rattle.s66_moments.specs.declared.fact_line.FactStep.{FactStep}
 use Rattle.s66_moments.specs.declared.fact_line.FactStep.TheVariants as step
-use Rattle.s66_moments.specs.KnownFacts.{IsAnchored}
-use Rattle.s66_isa.specs.KindNames.{kind_name}
-use Rattle.s66_line.specs.InstructionText.{IsInstruction}
-use Rattle.s66_isa.specs.declared.limits.TheConstants.{PROFILE_LENGTH, PROFILE_LIMIT}
-use Rattle.s66_model.specs.Lines.{has_dominated_line}
+use Rattle.s66_line.specs.{IsInstruction}
 use Rattle.s66_cert.specs.declared.version.Version.{Version}
 use Rattle.s66_cert.specs.Versions.{version, version_number}
 use Rattle.s66_cert.specs.declared.limits.TheConstants.{TIME_LIMIT, SPLIT_LIMIT, FACT_LIMIT, LINE_LIMIT}

@@ -1,10 +1,8 @@
 -- Used by contracts: what is to show a bound, as code stores it.
 use Rattle.std.specs.Prelude.{ℕ, ◌≡◌, ◌≤◌, List, Some}
-use Rattle.s66_isa.specs.declared.limits.TheConstants.{BLOCK_LIMIT}
-use Rattle.s66_model.specs.declared.rule.Rule.TheVariants.{ClampedStanding}
-use Rattle.s66_model.specs.Trees.{Vertex, flat, splits}
-use Rattle.s66_model.specs.DominatedLeaves.{Ending}
-use Rattle.s66_moments.specs.declared.fact_line.FactStep.{FactStep}
+use Rattle.s66_isa.specs.{BLOCK_LIMIT}
+use Rattle.s66_model.specs.{ClampedStanding, Vertex, flat, splits, Ending}
+use Rattle.s66_moments.specs.{FactStep}
 use Rattle.s66_cert.specs.declared.limits.TheConstants.{SPLIT_LIMIT, TIME_LIMIT}
 use Rattle.s66_cert.specs.Documents.{AreFacts, HasItsLeaves, TreeFits}
 use Rattle.s66_cert.specs.DocumentParts.{tree_of_lines}

@@ -1,8 +1,7 @@
 -- To be believed: the first fault of a text that is no text of documents, in reading order.
 use Rattle.std.specs.Prelude.{◌≡◌, ◌⊎◌, ◌+◌, ◌==◌, ℕ, true, not, List, [], ◌∷◌, ◌++◌, length}
-use Rattle.s66_isa.specs.Lists.{every}
-use Rattle.s66_isa.specs.declared.limits.TheConstants.{BLOCK_LIMIT}
-use Rattle.s66_line.specs.Fields.{with_newlines}
+use Rattle.s66_isa.specs.{every, BLOCK_LIMIT}
+use Rattle.s66_line.specs.{with_newlines}
 use Rattle.s66_cert.specs.Documents.{Document, IsDocumentWithin, AreDocumentsWithin, IsText, text_headed, documents_text}
 use Rattle.s66_cert.specs.declared.version.Version.{Version}
 use Rattle.s66_cert.specs.declared.version.Version.TheVariants.{BoundsAlone, EarlierNodes, StandingNodes, FactLines, Suppositions}

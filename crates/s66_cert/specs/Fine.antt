@@ -1,15 +1,11 @@
 -- Used by contracts: what was read of documents is in range.
 use Rattle.std.specs.Prelude.{◌≡◌, ◌≤◌, ◌+◌, ℕ, zero, suc, true, List, [], ◌∷◌, Option, is_some, length}
-use Rattle.s66_isa.specs.declared.limits.TheConstants.{BLOCK_LIMIT}
-use Rattle.s66_model.specs.declared.rule.Rule.{Rule}
-use Rattle.s66_model.specs.Trees.{Vertex, AtTerminal, AtSplit}
-use Rattle.s66_model.specs.DominatedLeaves.{Ending}
-use Rattle.s66_isa.specs.Lists.{every}
-use Rattle.s66_moments.specs.declared.fact_line.FactStep.{FactStep}
+use Rattle.s66_isa.specs.{BLOCK_LIMIT, every, PROFILE_LENGTH, PROFILE_LIMIT}
+use Rattle.s66_model.specs.{Rule, Vertex, AtTerminal, AtSplit, Ending}
+use Rattle.s66_moments.specs.{FactStep}
 use Rattle.s66_cert.specs.Documents.{AreDocumentsWithin, AreIn, AreNumbers, AreInstructions, AreFacts, IsLeafLine}
 use Rattle.s66_cert.specs.DocumentParts.{Parts}
 use Rattle.s66_cert.specs.Reading.{DocumentState, is_leaf_of}
-use Rattle.s66_isa.specs.declared.limits.TheConstants.{PROFILE_LENGTH, PROFILE_LIMIT}
 use Rattle.s66_cert.specs.declared.version.Version.{Version}
 use Rattle.s66_cert.specs.Versions.{has_suppositions, version_rule, has_facts, may_suppose}
 use Rattle.s66_cert.specs.declared.limits.TheConstants.{TIME_LIMIT}

@@ -1,27 +1,14 @@
 -- Used by contracts: the lines of a document, what each says, how it is written, and what bytes are read as. A block has at most limit instructions.
 use Rattle.std.specs.Prelude.{◌≡◌, ◌≤◌, ◌+◌, ◌*◌, ◌-◌, ◌==◌, ◌&&◌, if◌then◌else◌, ℕ, Bool, true, false, not, List, [], ◌∷◌, ◌++◌, Option, None, Some, nat_le, is_some, length, codes, decimal}
-use Rattle.std.specs.Option.{option_map}
-use Rattle.std.specs.Str.{bytes_eq}
-use Rattle.s66_isa.specs.declared.instr.Kind.{Kind}
-use Rattle.s66_isa.specs.declared.instr.Kind.TheVariants.{Boolean, Shift, Add, LongAdd, Multiply, Divide, Increment}
-use Rattle.s66_isa.specs.Lists.{every, after_blanks}
-use Rattle.s66_model.specs.Leaves.{Whole, Chain, Load, Parcels}
-use Rattle.s66_model.specs.Trees.{Vertex, AtTerminal, AtSplit}
-use Rattle.s66_model.specs.DominatedLeaves.{Ending, Bounding, Dominated, Factual}
-use Rattle.s66_model.specs.FactLeaves.{Next, Turned, AtLine, LoadFrom}
-use Rattle.s66_line.specs.Characters.{is_decimal}
-use Rattle.s66_line.specs.InstructionText.{spelling, operation_in, operand_in, IsInstruction}
-use Rattle.s66_line.specs.Operand.{instr_of}
-use Rattle.s66_line.specs.declared.limits.TheConstants.{TEXT_LIMIT}
-use Rattle.s66_moments.specs.declared.moment.Stage.TheVariants.{Issue, Start}
-use Rattle.s66_moments.specs.declared.moment.Moment.{Moment}
-use Rattle.s66_moments.specs.declared.moment.Moment.TheVariants.{Origin, At}
+use Rattle.std.specs.Prelude.{option_map, bytes_eq}
+use Rattle.s66_isa.specs.{Kind, Boolean, Shift, Add, LongAdd, Multiply, Divide, Increment, every, after_blanks, PROFILE_LENGTH, PROFILE_LIMIT}
+use Rattle.s66_model.specs.{Whole, Chain, Load, Parcels, Vertex, AtTerminal, AtSplit, Ending, Bounding, Dominated, Factual, Next, Turned, AtLine, LoadFrom}
+use Rattle.s66_moments.specs.{Issue, Start, Moment, Origin, At, FactStep}
 use Rattle.s66_moments.specs.declared.moment.Moment.TheVariants as moment
 use Rattle.s66_moments.specs.declared.fact_line.FactLine.TheVariants as fact
-use Rattle.s66_moments.specs.declared.fact_line.FactStep.{FactStep}
 use Rattle.s66_moments.specs.declared.fact_line.FactStep.TheVariants as step
+use Rattle.s66_line.specs.{is_decimal, spelling, operation_in, operand_in, IsInstruction, instr_of, TEXT_LIMIT}
 use Rattle.s66_cert.specs.Documents.{AreIn, AreNumbers, IsLeafLine, IsFactStep, step_line, vertex_line}
-use Rattle.s66_isa.specs.declared.limits.TheConstants.{PROFILE_LENGTH, PROFILE_LIMIT}
 use Rattle.s66_cert.specs.declared.version.Version.{Version}
 use Rattle.s66_cert.specs.declared.version.Version.TheVariants.{BoundsAlone, EarlierNodes, StandingNodes, FactLines, Suppositions}
 use Rattle.s66_cert.specs.Versions.{version_number}

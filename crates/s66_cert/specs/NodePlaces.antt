@@ -1,10 +1,7 @@
 -- Used by contracts: where the tree of each line of a tree ends, the places of nodes among the lines, and the line at a place.
 use Rattle.std.specs.Prelude.{◌≡◌, ◌-◌, ◌<◌, ◌≤◌, ℕ, zero, suc, List, [], ◌∷◌, ◌++◌, length, drop, get_or, slice_get, Option, None, Some}
-use Rattle.s66_isa.specs.declared.limits.TheConstants.{BLOCK_LIMIT}
-use Rattle.s66_model.specs.Trees.{Tree, Siblings, Vertex, AtTerminal, AtSplit}
-use Rattle.s66_model.specs.DominatedLeaves.{Ending}
-use Rattle.s66_model.specs.NodeNames.{node_named}
-use Rattle.s66_model.specs.Preorder.{forest, later_siblings}
+use Rattle.s66_isa.specs.{BLOCK_LIMIT}
+use Rattle.s66_model.specs.{Tree, Siblings, Vertex, AtTerminal, AtSplit, Ending, node_named, forest, later_siblings}
 use Rattle.s66_cert.specs.Documents.{tree_placed}
 use Rattle.s66_cert.specs.DocumentParts.{tree_of_lines}
 

@@ -1,18 +1,14 @@
 -- Used by contracts: a text of documents read line by line. A block has at most limit instructions, and a tree most splits.
 use Rattle.std.specs.Prelude.{◌+◌, ◌-◌, ◌==◌, ◌&&◌, ◌||◌, if◌then◌else◌, ℕ, suc, Bool, true, false, not, List, [], ◌∷◌, ◌++◌, Option, None, Some, is_some, Result, Ok, Err, nat_le, nat_lt, length}
-use Rattle.std.specs.Option.{option_map}
-use Rattle.s66_isa.specs.declared.limits.TheConstants.{BLOCK_LIMIT}
-use Rattle.s66_model.specs.declared.rule.Rule.TheVariants.{NoneNamed}
-use Rattle.s66_model.specs.Trees.{Vertex, AtTerminal, AtSplit}
-use Rattle.s66_model.specs.DominatedLeaves.{Ending, Bounding, Dominated, Factual}
-use Rattle.s66_moments.specs.declared.fact_line.FactStep.{FactStep}
-use Rattle.s66_model.specs.Lines.{has_dominated_line}
+use Rattle.std.specs.Prelude.{option_map}
+use Rattle.s66_isa.specs.{BLOCK_LIMIT}
+use Rattle.s66_model.specs.{NoneNamed, Vertex, AtTerminal, AtSplit, Ending, Bounding, Dominated, Factual, has_dominated_line}
+use Rattle.s66_moments.specs.{FactStep, supposes}
 use Rattle.s66_cert.specs.Documents.{Document, names_nodes}
 use Rattle.s66_cert.specs.Lines.{DocumentLine, Header, Profile, Block, Instruction, Time, Bound, Order, OfFact, OfTree, End, line_read}
 use Rattle.s66_cert.specs.DocumentParts.{Parts, document_of}
 use Rattle.s66_cert.specs.declared.version.Version.{Version}
 use Rattle.s66_cert.specs.declared.version.Version.TheVariants.{BoundsAlone}
-use Rattle.s66_moments.specs.Suppositions.{supposes}
 use Rattle.s66_cert.specs.Versions.{has_suppositions, version_rule, has_facts, may_suppose}
 use Rattle.s66_cert.specs.declared.limits.TheConstants.{SPLIT_LIMIT, FACT_LIMIT}
 use Rattle.s66_cert.specs.declared.error.CertError.{CertError}

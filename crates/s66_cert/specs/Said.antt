@@ -1,5 +1,5 @@
 -- Used by contracts: what a line says that code has read.
-use Rattle.s66_model.specs.Lines.{vertex_of}
+use Rattle.s66_model.specs.{vertex_of}
 use Rattle.s66_cert.specs.Lines.{DocumentLine}
 use Rattle.s66_cert.specs.Lines as line
 use Rattle.s66_cert.specs.declared.line.LineOf.{LineOf}

@@ -67,12 +67,9 @@ impl Model for Document {
 }
 
 impl Document {
-    ghost use Rattle.std.specs.Prelude.{◌≡◌, []};
-    ghost use Rattle.std.specs.Option.{option_map};
-    ghost use Rattle.s66_model.specs.NodeNames.{node_named};
-    ghost use Rattle.s66_model.specs.Lines.{vertex_of};
-    ghost use Rattle.s66_cert.specs.DocumentParts.{AreWhole, document_of};
-    ghost use Rattle.s66_cert.specs.NodePlaces.{IsLineAt};
+    ghost use Rattle.std.specs.Prelude.{◌≡◌, [], option_map};
+    ghost use Rattle.s66_model.specs.{node_named, vertex_of};
+    ghost use Rattle.s66_cert.specs.{AreWhole, document_of, IsLineAt};
 
     /// The document that says this. Its numbers have to be in their ranges, its texts those of instructions, and the lines of its
     /// tree those of one whole tree of at most `SPLIT_LIMIT` splits, of the kinds that may stand with its rule and its fact lines, of

@@ -40,8 +40,8 @@ impl<T: Drop> From<AllocFailed<T>> for CertError {
 
 impl CertError {
     ghost use Rattle.std.specs.Prelude.{◌≡◌, ◌<◌, length};
-    ghost use Rattle.s66_device.specs.declared.limits.TheConstants.{FAULT_ROOM};
-    ghost use Rattle.s66_cert.specs.Refusals.{document_refusal_line};
+    ghost use Rattle.s66_device.specs.{FAULT_ROOM};
+    ghost use Rattle.s66_cert.specs.{document_refusal_line};
 
     /// The line that reports it, without a newline.
     pub fn line(&self) -> ArrayString<FAULT_ROOM>

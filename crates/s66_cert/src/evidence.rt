@@ -1,10 +1,9 @@
 //! What is to show a bound, if a document may have it (`Evidence`): fact lines and a tree. `s66_deep` makes one of what it found.
 
 ghost use Rattle.std.specs.Prelude.{◌≡◌, ◌≤◌, ◌↔◌, IsTrue};
-ghost use Rattle.s66_isa.specs.declared.limits.TheConstants.{BLOCK_LIMIT};
-ghost use Rattle.s66_model.specs.Trees.{flat, splits};
-ghost use Rattle.s66_cert.specs.Documents.{TreeFits};
-ghost use Rattle.s66_cert.specs.DocumentParts.{tree_of_lines};
+ghost use Rattle.s66_isa.specs.{BLOCK_LIMIT};
+ghost use Rattle.s66_model.specs.{flat, splits};
+ghost use Rattle.s66_cert.specs.{TreeFits, tree_of_lines};
 
 use crate::indexed_tree::sibling_count;
 use crate::limits::{FACT_LIMIT, SPLIT_LIMIT, TIME_LIMIT};
@@ -57,9 +56,8 @@ impl Model for Evidence {
 
 impl Evidence {
     ghost use Rattle.std.specs.Prelude.{◌≡◌, ◌≤◌, IfSome, IfNone};
-    ghost use Rattle.s66_model.specs.Trees.{splits};
-    ghost use Rattle.s66_cert.specs.DocumentParts.{tree_of_lines};
-    ghost use Rattle.s66_cert.specs.Evidence.{IsEvidence};
+    ghost use Rattle.s66_model.specs.{splits};
+    ghost use Rattle.s66_cert.specs.{tree_of_lines, IsEvidence};
 
     /// Fact lines, and a tree that is to show by them that no order takes less than a bound, in minor cycles. None exactly if a document
     /// may not have them, or the tree has more than this many splits.

@@ -2,8 +2,8 @@
 //! whole subtrees.
 
 ghost use Rattle.std.specs.Prelude.{◌≡◌, get_or};
-ghost use Rattle.s66_model.specs.Lines.{vertex_of};
-ghost use Rattle.s66_cert.specs.NodePlaces.{end_behind, sibling_count};
+ghost use Rattle.s66_model.specs.{vertex_of};
+ghost use Rattle.s66_cert.specs.{end_behind, sibling_count};
 
 use arrayvec::ArrayVec;
 use s66_isa::BLOCK_LIMIT;
@@ -53,8 +53,7 @@ pub(crate) struct IndexedTree {
 
 impl Model for IndexedTree {
     ghost use Rattle.std.specs.Prelude.{List};
-    ghost use Rattle.s66_model.specs.Trees.{Vertex};
-    ghost use Rattle.s66_model.specs.DominatedLeaves.{Ending};
+    ghost use Rattle.s66_model.specs.{Vertex, Ending};
     ghost use Rattle.s66_cert.specs.NodePlaces.{AreTreeEnds};
 
     ghost Value = { List (Vertex Ending) };
@@ -65,12 +64,9 @@ impl Model for IndexedTree {
 }
 
 impl IndexedTree {
-    ghost use Rattle.std.specs.Prelude.{◌≡◌, ◌<◌, ◌≤◌, ◌^◌, [], length};
-    ghost use Rattle.std.specs.Option.{option_map};
-    ghost use Rattle.s66_model.specs.NodeNames.{node_named};
-    ghost use Rattle.s66_model.specs.Lines.{vertex_of};
-    ghost use Rattle.s66_cert.specs.DocumentParts.{tree_of_lines};
-    ghost use Rattle.s66_cert.specs.NodePlaces.{IsChildAt, IsBelow, IsLineAt};
+    ghost use Rattle.std.specs.Prelude.{◌≡◌, ◌<◌, ◌≤◌, ◌^◌, [], length, option_map};
+    ghost use Rattle.s66_model.specs.{node_named, vertex_of};
+    ghost use Rattle.s66_cert.specs.{tree_of_lines, IsChildAt, IsBelow, IsLineAt};
 
     /// The same lines, in one pass over them; nothing is allocated.
     pub(crate) fn new(tree: Tree) -> IndexedTree

@@ -1,6 +1,7 @@
 //! The text of an instruction in a document, with the instruction that it spells.
 
-ghost use Rattle.s66_line.specs.InstructionText.{IsTextOf};
+ghost use Rattle.std.specs.Prelude.{ℕ, List, ◌≡◌, ◌≤◌, length, IfOk};
+ghost use Rattle.s66_line.specs.{IsTextOf, instr_in_text, TEXT_LIMIT};
 
 use s66_isa::Instr;
 use std::alloc::{AllocError, Global};
@@ -22,9 +23,6 @@ pub struct InstructionText {
 }
 
 impl Model for InstructionText {
-    ghost use Rattle.std.specs.Prelude.{ℕ, List};
-    ghost use Rattle.s66_line.specs.InstructionText.{IsTextOf};
-
     ghost Value = { List ℕ };
 
     ghost view = { λ t. t.bytes.items };
@@ -33,10 +31,6 @@ impl Model for InstructionText {
 }
 
 impl InstructionText {
-    ghost use Rattle.std.specs.Prelude.{◌≡◌, ◌≤◌, length, IfOk};
-    ghost use Rattle.s66_line.specs.InstructionText.{instr_in_text, IsTextOf};
-    ghost use Rattle.s66_line.specs.declared.limits.TheConstants.{TEXT_LIMIT};
-
     /// A copy of an instruction's text.
     pub fn new(alloc: Global, bytes: &[u8], instr: Instr) -> Result<InstructionText, AllocError>
         requires { IsTextOf bytes.now instr }

@@ -2,10 +2,8 @@
 //! A text determines its documents and is determined by them.
 
 ghost use Rattle.std.specs.Prelude.{ℕ, List, ◌≡◌, ◌<◌, ◌^◌, ◌⊎◌};
-ghost use Rattle.s66_isa.specs.declared.limits.TheConstants.{BLOCK_LIMIT};
-ghost use Rattle.s66_cert.specs.Documents.{Document, IsDocumentWithin, IsText, IsTextWithin, document_text};
-ghost use Rattle.s66_cert.specs.Faults.{IsFault};
-ghost use Rattle.s66_cert.specs.declared.error.CertError.{CertError};
+ghost use Rattle.s66_isa.specs.{BLOCK_LIMIT};
+ghost use Rattle.s66_cert.specs.{Document, IsDocumentWithin, IsText, IsTextWithin, document_text, IsFault, CertError};
 
 /// A text is the text of one document alone, and of one list of documents, whatever the limits of each.
 pub fn one_reading_law()

@@ -1,19 +1,13 @@
 //! One line of a document, from its bytes to what it says (`line_of`). Whether that line may come next is `reader.rt`'s.
 
-ghost use Rattle.std.specs.Prelude.{◌≡◌, ◌≤◌};
-ghost use Rattle.std.specs.Str.{bytes_eq};
-ghost use Rattle.std.specs.Option.{option_map};
-ghost use Rattle.s66_isa.specs.declared.limits.TheConstants.{BLOCK_LIMIT};
-ghost use Rattle.s66_model.specs.Leaves.{Chain, Load};
-ghost use Rattle.s66_model.specs.Trees.{AtTerminal, AtSplit};
-ghost use Rattle.s66_model.specs.DominatedLeaves.{Bounding, Dominated, Factual};
-ghost use Rattle.s66_model.specs.FactLeaves.{Next, Turned, AtLine};
+ghost use Rattle.std.specs.Prelude.{◌≡◌, ◌≤◌, bytes_eq, option_map};
+ghost use Rattle.s66_isa.specs.{BLOCK_LIMIT};
+ghost use Rattle.s66_model.specs.{Chain, Load, AtTerminal, AtSplit, Bounding, Dominated, Factual, Next, Turned, AtLine};
 ghost use Rattle.s66_moments.specs.declared.fact_line.FactLine.TheVariants as fact;
 ghost use Rattle.s66_moments.specs.declared.fact_line.FactStep.TheVariants as step;
-ghost use Rattle.s66_cert.specs.Lines.{line_read, word_in, rest_in, block_numbers, two_numbers, pair_with, profile_in, one_number, stage_in, front_in, back_in, load_in, load_from_in, instruction_in, kind_in, header_in, alone, OfFact, OfTree};
+ghost use Rattle.s66_cert.specs.{line_read, word_in, rest_in, block_numbers, two_numbers, pair_with, profile_in, one_number, stage_in, front_in, back_in, load_in, load_from_in, instruction_in};
+ghost use Rattle.s66_cert.specs.{kind_in, header_in, alone, OfFact, OfTree, said, TIME_LIMIT, LINE_LIMIT};
 ghost use Rattle.s66_cert.specs.Lines as line;
-ghost use Rattle.s66_cert.specs.Said.{said};
-ghost use Rattle.s66_cert.specs.declared.limits.TheConstants.{TIME_LIMIT, LINE_LIMIT};
 
 use crate::instruction::ReadText;
 use crate::limits::{LINE_LIMIT, TIME_LIMIT};

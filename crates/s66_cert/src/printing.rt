@@ -1,14 +1,11 @@
 //! Pushes the text of a document (`push_document`): its lines in order, from the version to `END`.
 
-ghost use Rattle.std.specs.Option.{option_map};
-ghost use Rattle.std.specs.Prelude.{◌≡◌, ◌++◌, ◌∷◌, OnOk, codes, decimal};
-ghost use Rattle.s66_isa.specs.Lists.{after_blanks};
-ghost use Rattle.s66_model.specs.DominatedLeaves.{Factual};
-ghost use Rattle.s66_model.specs.Lines.{fact_leaf_of, vertex_of};
+ghost use Rattle.std.specs.Prelude.{option_map, ◌≡◌, ◌++◌, ◌∷◌, OnOk, codes, decimal};
+ghost use Rattle.s66_isa.specs.{after_blanks};
+ghost use Rattle.s66_model.specs.{Factual, fact_leaf_of, vertex_of};
 ghost use Rattle.s66_moments.specs.declared.fact_line.FactLine.TheVariants as fact;
-ghost use Rattle.s66_cert.specs.Documents.{claim_lines, document_text, fact_line, facts_text, head_lines, instructions_text, leaf_line, moment_text, step_line, step_lines, tree_lines, vertex_line};
-ghost use Rattle.s66_cert.specs.DocumentParts.{document_of};
-ghost use Rattle.s66_cert.specs.Versions.{version};
+ghost use Rattle.s66_cert.specs.{claim_lines, document_text, fact_line, facts_text, head_lines, instructions_text, leaf_line, moment_text, step_line, step_lines, tree_lines, vertex_line, document_of};
+ghost use Rattle.s66_cert.specs.{version};
 
 use crate::document::Document;
 use crate::instruction::InstructionText;

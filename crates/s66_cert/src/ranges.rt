@@ -1,13 +1,11 @@
 //! Which numbers, fact lines and lines of a tree a document may have.
 
 ghost use Rattle.std.specs.Prelude.{◌≡◌, ◌↔◌, [], ◌∷◌, IsTrue};
-ghost use Rattle.s66_isa.specs.declared.limits.TheConstants.{BLOCK_LIMIT};
+ghost use Rattle.s66_isa.specs.{BLOCK_LIMIT};
+ghost use Rattle.s66_model.specs.{Factual, fact_leaf_of, vertex_of};
 ghost use Rattle.s66_moments.specs.declared.fact_line.FactLine.TheVariants as fact;
-ghost use Rattle.s66_moments.specs.KnownFacts.{IsMomentWithin, is_front, is_back};
-ghost use Rattle.s66_model.specs.DominatedLeaves.{Factual};
-ghost use Rattle.s66_model.specs.Lines.{fact_leaf_of, vertex_of};
-ghost use Rattle.s66_cert.specs.Documents.{AreIn, AreNumbers, AreFactSteps, IsFactLine, IsFactStep, IsLeafLine};
-ghost use Rattle.s66_cert.specs.Lines.{IsVertex};
+ghost use Rattle.s66_moments.specs.{IsMomentWithin, is_front, is_back};
+ghost use Rattle.s66_cert.specs.{AreIn, AreNumbers, AreFactSteps, IsFactLine, IsFactStep, IsLeafLine, IsVertex};
 
 use crate::limits::{LINE_LIMIT, TIME_LIMIT};
 use s66_isa::BLOCK_LIMIT;

@@ -1,18 +1,11 @@
 //! Reads documents line by line: an automaton that knows which line may come next, and what the open document has said so far.
 
 ghost use Rattle.std.specs.Prelude.{suc, false, ◌≡◌, ◌≤◌, ◌<◌, ◌+◌, ◌-◌, ◌^◌, [], length, OnOk};
-ghost use Rattle.s66_isa.specs.declared.limits.TheConstants.{BLOCK_LIMIT};
-ghost use Rattle.s66_cert.specs.Documents.{names_nodes};
-ghost use Rattle.s66_cert.specs.Fine.{IsFine};
-ghost use Rattle.s66_cert.specs.Lines.{IsLineInRange, IsVertex, Header, Profile, Block, Instruction, Time, Bound, Order, OfFact, OfTree, End};
-ghost use Rattle.s66_model.specs.Lines.{vertex_of};
-ghost use Rattle.s66_cert.specs.DocumentParts.{AreWhole, facts_in};
-ghost use Rattle.s66_cert.specs.DocumentReader.{state, Steps, StepsEnd};
-ghost use Rattle.s66_cert.specs.Reading.{nothing, first_state, is_allowed, may_dominate, is_leaf_of, has_room, takes_fact, takes_step, wants_dominated, wants_supposition, is_wanting, step_at, step, steps, whole_lines, last_bytes};
-ghost use Rattle.s66_cert.specs.Said.{said};
-ghost use Rattle.s66_cert.specs.declared.error.CertError.TheVariants.{BadLine};
-ghost use Rattle.s66_cert.specs.declared.limits.TheConstants.{SPLIT_LIMIT};
-ghost use Rattle.s66_cert.specs.declared.document_place.DocumentPlace.TheVariants.{AtInstruction, AtTree, AtEnd};
+ghost use Rattle.s66_isa.specs.{BLOCK_LIMIT};
+ghost use Rattle.s66_model.specs.{vertex_of};
+ghost use Rattle.s66_cert.specs.{names_nodes, IsFine, IsLineInRange, IsVertex, Header, Profile, Block, Instruction, Time, Bound, Order, OfFact, OfTree, End, AreWhole, facts_in, state, Steps, StepsEnd};
+ghost use Rattle.s66_cert.specs.{nothing, first_state, is_allowed, may_dominate, is_leaf_of, has_room, takes_fact, takes_step, wants_dominated, wants_supposition, is_wanting, step_at, step, steps};
+ghost use Rattle.s66_cert.specs.{whole_lines, last_bytes, said, BadLine, SPLIT_LIMIT, AtInstruction, AtTree, AtEnd};
 
 use crate::document::{Claim, Document};
 use crate::document_place::DocumentPlace;

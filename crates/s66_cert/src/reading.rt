@@ -1,12 +1,8 @@
 //! Reads a text as documents (`read`), or tells its first fault: the call that others make, over `reader.rt`.
 
 ghost use Rattle.std.specs.Prelude.{map, IfOk};
-ghost use Rattle.s66_isa.specs.declared.limits.TheConstants.{BLOCK_LIMIT};
-ghost use Rattle.s66_cert.specs.Documents.{IsText};
-ghost use Rattle.s66_cert.specs.DocumentParts.{document_of};
-ghost use Rattle.s66_cert.specs.DocumentReader.{Gives};
-ghost use Rattle.s66_cert.specs.Reading.{read_of};
-ghost use Rattle.s66_cert.specs.Reads.{RefusesText};
+ghost use Rattle.s66_isa.specs.{BLOCK_LIMIT};
+ghost use Rattle.s66_cert.specs.{IsText, document_of, Gives, read_of, RefusesText};
 
 use crate::document::Document;
 use crate::document_place::DocumentPlace;

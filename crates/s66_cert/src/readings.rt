@@ -2,24 +2,13 @@
 //! Worked examples of reading: texts, and the documents or the faults that they give.
 
 ghost use Rattle.std.specs.Prelude.{false, List, Some, [], ◌∷◌, ◌++◌, ◌-◌, ◌≡◌, codes, Ok, Err, take, replicate, true, length};
-ghost use Rattle.s66_isa.specs.Lists.{rising};
-ghost use Rattle.s66_isa.specs.declared.instr.Kind.TheVariants.{Multiply};
-ghost use Rattle.s66_isa.specs.declared.limits.TheConstants.{BLOCK_LIMIT};
-ghost use Rattle.s66_model.specs.declared.rule.Rule.TheVariants.{WrittenEarlier, ClampedStanding};
-ghost use Rattle.s66_model.specs.Leaves.{Chain, Load, Parcels};
-ghost use Rattle.s66_model.specs.Trees.{Alone, Parted};
-ghost use Rattle.s66_model.specs.DominatedLeaves.{Bounding, Dominated};
-ghost use Rattle.s66_model.specs.FactLeaves.{AtLine, LoadFrom};
-ghost use Rattle.s66_moments.specs.declared.moment.Stage.TheVariants.{Issue, Start};
-ghost use Rattle.s66_moments.specs.declared.moment.Moment.TheVariants.{Origin, At, End};
-ghost use Rattle.s66_cert.specs.declared.error.CertError.TheVariants.{BadLine, Truncated, TooManyNodes};
-ghost use Rattle.s66_cert.specs.declared.limits.TheConstants.{SPLIT_LIMIT};
-ghost use Rattle.s66_moments.specs.declared.fact_line.FactStep.{FactStep};
+ghost use Rattle.s66_isa.specs.{rising, Multiply, BLOCK_LIMIT};
+ghost use Rattle.s66_model.specs.{WrittenEarlier, ClampedStanding, Chain, Load, Parcels, Alone, Parted, Bounding, Dominated, AtLine, LoadFrom};
+ghost use Rattle.s66_moments.specs.{Issue, Start, Origin, At, End, FactStep};
 ghost use Rattle.s66_moments.specs.declared.fact_line.FactStep.TheVariants.{Suppose, Refuted};
-ghost use Rattle.s66_cert.specs.Reading.{nothing, takes_fact, read_of, read_within};
-ghost use Rattle.s66_cert.specs.Altered.{replaced, with_line, with_late_line, with_factual_line, with_fact_line, with_step_lines, with_split_of, are_truncated};
+ghost use Rattle.s66_cert.specs.{BadLine, Truncated, TooManyNodes, SPLIT_LIMIT, nothing, takes_fact, read_of, read_within, replaced, with_line, with_late_line, with_factual_line, with_fact_line};
+ghost use Rattle.s66_cert.specs.{with_step_lines, with_split_of, are_truncated, three_multiplies, three_multiplies_text, one_load, one_load_text, late_reader, late_reader_text};
 ghost use Rattle.s66_cert.specs.Examples as examples;
-ghost use Rattle.s66_cert.specs.Examples.{three_multiplies, three_multiplies_text, one_load, one_load_text, late_reader, late_reader_text};
 
 /// Texts that are read as documents.
 #[tactic(auto, unfolding(crate::specs::Examples::digits))]

@@ -1,11 +1,9 @@
 //! Words and numbers in the bytes of a line.
 
-ghost use Rattle.std.specs.Prelude.{◌≡◌, ◌≤◌, ◌<◌, ◌+◌, ◌-◌, ◌*◌, ◌^◌, true, if◌then◌else◌, length, IfSome};
-ghost use Rattle.std.specs.Option.{option_map};
-ghost use Rattle.s66_isa.specs.Lists.{every};
-ghost use Rattle.s66_line.specs.Characters.{is_decimal};
-ghost use Rattle.s66_cert.specs.Lines.{first_word, after_first_word, words_in, value_after, has_no_leading_zero, number_in, numbers_in, if_count};
-ghost use Rattle.s66_cert.specs.declared.limits.TheConstants.{LINE_LIMIT};
+ghost use Rattle.std.specs.Prelude.{◌≡◌, ◌≤◌, ◌<◌, ◌+◌, ◌-◌, ◌*◌, ◌^◌, true, if◌then◌else◌, length, IfSome, option_map};
+ghost use Rattle.s66_isa.specs.{every};
+ghost use Rattle.s66_line.specs.{is_decimal};
+ghost use Rattle.s66_cert.specs.{first_word, after_first_word, words_in, value_after, has_no_leading_zero, number_in, numbers_in, if_count, LINE_LIMIT};
 
 use crate::limits::LINE_LIMIT;
 use arrayvec::ArrayVec;

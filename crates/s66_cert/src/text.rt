@@ -2,17 +2,10 @@
 //! Worked examples of printing: documents, and their texts.
 
 ghost use Rattle.std.specs.Prelude.{ℕ, List, [], ◌∷◌, ◌++◌, ◌≡◌, codes};
-ghost use Rattle.s66_isa.specs.Table.{entries, standard};
-ghost use Rattle.s66_isa.specs.declared.limits.TheConstants.{BLOCK_LIMIT};
-ghost use Rattle.s66_model.specs.declared.rule.Rule.TheVariants.{WrittenEarlier, ClampedStanding};
-ghost use Rattle.s66_model.specs.Leaves.{Parcels};
-ghost use Rattle.s66_model.specs.Trees.{Alone, flat};
-ghost use Rattle.s66_model.specs.DominatedLeaves.{Bounding};
-ghost use Rattle.s66_moments.specs.declared.moment.Stage.TheVariants.{Issue};
-ghost use Rattle.s66_moments.specs.declared.moment.Moment.TheVariants.{At, End};
-ghost use Rattle.s66_cert.specs.Altered.{with_fact_line};
-ghost use Rattle.s66_model.specs.Examples.{uneven_profile};
-ghost use Rattle.s66_cert.specs.Documents.{Document, IsText, document_text, tree_lines};
+ghost use Rattle.s66_isa.specs.{entries, standard, BLOCK_LIMIT};
+ghost use Rattle.s66_model.specs.{WrittenEarlier, ClampedStanding, Parcels, Alone, flat, Bounding, uneven_profile};
+ghost use Rattle.s66_moments.specs.{Issue, At, End};
+ghost use Rattle.s66_cert.specs.{with_fact_line, Document, IsText, document_text, tree_lines};
 ghost use Rattle.s66_cert.specs.Examples as examples;
 
 /// The text of each worked document, what is read of a text, and texts of which nothing is read.

@@ -1,10 +1,9 @@
 //! The versions of documents: which leaves and fact lines a document of each may have.
 
-ghost use Rattle.std.specs.Prelude.{◌≡◌};
-ghost use Rattle.std.specs.Option.{option_map};
-ghost use Rattle.s66_isa.specs.Lists.{some_of};
-ghost use Rattle.s66_moments.specs.Suppositions.{supposes};
-ghost use Rattle.s66_cert.specs.Versions.{has_suppositions, version, version_number, version_rule, has_facts, may_suppose};
+ghost use Rattle.std.specs.Prelude.{◌≡◌, option_map};
+ghost use Rattle.s66_isa.specs.{some_of};
+ghost use Rattle.s66_moments.specs.{supposes};
+ghost use Rattle.s66_cert.specs.{has_suppositions, version, version_number, version_rule, has_facts, may_suppose};
 
 use s66_model::Rule;
 use s66_moments::FactStep;

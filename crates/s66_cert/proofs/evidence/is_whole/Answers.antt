@@ -1,9 +1,8 @@
-use Rattle.std.proofs.Common.{eq-eqb, arith}
-use Rattle.std.proofs.lemmas.Bool.{eqb-true}
-use Rattle.s66_model.specs.Lines.{vertex_of}
+use Rattle.std.proofs.Common.{eq-eqb, arith, eqb-true}
+use Rattle.s66_model.specs.{vertex_of}
 use Rattle.s66_cert.proofs.WholeTrees.{at-last, not-next, too-many, refused}
-use Rattle.s66_cert.proofs.evidence.is_whole.Goals as goal
 use Rattle.s66_cert.proofs.evidence.is_whole.Goals.{then-left-eq0-via-then-left-eq0, then-left-eq0-via-else-left-eq0+then-not-is_vertex}
+use Rattle.s66_cert.proofs.evidence.is_whole.Goals as goal
 
 pub returns-then-left-eq0 : goal.returns-then-left-eq0
 returns-then-left-eq0 c =

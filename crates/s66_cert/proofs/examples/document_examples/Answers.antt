@@ -1,8 +1,7 @@
 use Rattle.std.proofs.Common.{refl, arith, rules}
+use Rattle.s66_isa.specs.{BLOCK_LIMIT}
 use Rattle.s66_line.proofs.InstructionTexts.{instruction}
-use Rattle.s66_isa.specs.declared.limits.TheConstants.{BLOCK_LIMIT}
-use Rattle.s66_cert.specs.Documents.{IsDocument}
-use Rattle.s66_cert.specs.Examples.{by_facts}
+use Rattle.s66_cert.specs.{IsDocument, by_facts}
 use Rattle.s66_cert.proofs.examples.document_examples.Goals as goal
 
 pub returns-clause-order_of_128 : goal.returns-clause-order_of_128

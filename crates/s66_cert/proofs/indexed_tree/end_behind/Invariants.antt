@@ -1,5 +1,5 @@
 use Rattle.std.proofs.Common.{◌≡◌}
-use Rattle.s66_cert.specs.NodePlaces.{end_behind}
+use Rattle.s66_cert.specs.{end_behind}
 use Rattle.s66_cert.proofs.indexed_tree.end_behind.Given as goal
 
 abbrev pub decreases-loop-left : goal.decreases-loop-left

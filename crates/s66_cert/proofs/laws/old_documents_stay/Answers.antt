@@ -1,5 +1,5 @@
 use Rattle.std.proofs.Common.{arith}
-use Rattle.s66_cert.specs.declared.limits.TheConstants.{SPLIT_LIMIT}
+use Rattle.s66_cert.specs.{SPLIT_LIMIT}
 use Rattle.s66_cert.proofs.InRange.{wide-text}
 use Rattle.s66_cert.proofs.laws.old_documents_stay.Goals as goal
 

@@ -1,5 +1,4 @@
-use Rattle.std.proofs.Common.{ap, Option, List, ℕ, Bor}
-use Rattle.std.specs.Option.{option_map}
+use Rattle.std.proofs.Common.{ap, Option, List, ℕ, Bor, option_map}
 use Rattle.s66_cert.proofs.Spelled.{refused}
 use Rattle.s66_cert.proofs.parse.instruction_line.Goals as goal
 

@@ -1,5 +1,5 @@
 use Rattle.std.proofs.Common.{◌≡◌, ◌++◌, drop}
-use Rattle.s66_cert.specs.Documents.{instructions_text}
+use Rattle.s66_cert.specs.{instructions_text}
 use Rattle.s66_cert.proofs.printing.push_block.Given as goal
 
 abbrev pub invariant-loop-text : goal.invariant-loop-text

@@ -1,8 +1,6 @@
 use Rattle.std.proofs.Common.{◌++◌, ◌∙◌, codes, refl, rules}
 use Rattle.std.proofs.lemmas.Result.{IfOk-equal}
-use Rattle.s66_cert.specs.Documents.{head_lines}
-use Rattle.s66_cert.specs.DocumentParts.{document_of}
-use Rattle.s66_cert.specs.Versions.{version}
+use Rattle.s66_cert.specs.{head_lines, document_of, version}
 use Rattle.s66_cert.proofs.Printed.{head-pushed}
 use Rattle.s66_cert.proofs.printing.push_head.Goals as goal
 

@@ -1,5 +1,5 @@
 use Rattle.std.proofs.Common.{◌≡◌, ◌++◌, drop}
-use Rattle.s66_cert.specs.Documents.{step_lines}
+use Rattle.s66_cert.specs.{step_lines}
 use Rattle.s66_cert.proofs.printing.push_steps.Given as goal
 
 abbrev pub invariant-loop-step : goal.invariant-loop-step

@@ -1,5 +1,5 @@
 use Rattle.std.proofs.Common.{◌≡◌, ◌++◌, length}
-use Rattle.s66_cert.specs.Documents.{tree_lines}
+use Rattle.s66_cert.specs.{tree_lines}
 use Rattle.s66_cert.proofs.printing.push_tree.Given as goal
 
 abbrev pub invariant-loop-line : goal.invariant-loop-line

@@ -1,7 +1,6 @@
-use Rattle.std.proofs.Common.{drop}
-use Rattle.std.specs.Prelude.{◌↔◌}
-use Rattle.s66_isa.specs.declared.limits.TheConstants.{BLOCK_LIMIT}
-use Rattle.s66_cert.specs.Documents.{AreIn}
+use Rattle.std.proofs.Common.{drop, ◌↔◌}
+use Rattle.s66_isa.specs.{BLOCK_LIMIT}
+use Rattle.s66_cert.specs.{AreIn}
 use Rattle.s66_cert.proofs.ranges.are_all_numbers.Given as goal
 
 abbrev pub invariant-loop-n : goal.invariant-loop-n

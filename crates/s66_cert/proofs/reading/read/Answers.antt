@@ -1,5 +1,5 @@
 use Rattle.std.proofs.Common.{map, Vec, Global}
-use Rattle.s66_cert.specs.DocumentParts.{document_of}
+use Rattle.s66_cert.specs.{document_of}
 use Rattle.s66_cert.specs.declared.document.Document.{Document}
 use Rattle.s66_cert.proofs.ReadGives.{gives-documents, gives-fault}
 use Rattle.s66_cert.proofs.reading.read.Goals as goal

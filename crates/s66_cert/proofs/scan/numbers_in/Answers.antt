@@ -1,6 +1,5 @@
-use Rattle.std.proofs.Common.{◌≡◌, ℕ, List, length, Bor, ap, sym, Option, arith, eqb-true, ◌<◌}
+use Rattle.std.proofs.Common.{◌≡◌, ℕ, List, length, Bor, ap, sym, Option, arith, eqb-true, ◌<◌, option_map}
 use Rattle.std.proofs.lemmas.Bool.{eqb-false}
-use Rattle.std.specs.Option.{option_map}
 use Rattle.s66_cert.proofs.Short.{numbers-none, numbers-too_many, numbers-some, numbers-all, below}
 use Rattle.s66_cert.proofs.scan.numbers_in.Goals as goal
 

@@ -1,6 +1,5 @@
-use Rattle.std.proofs.Common.{◌≡◌, ◌≤◌, length, List, ℕ, Bor}
-use Rattle.std.specs.Option.{option_map}
-use Rattle.s66_cert.specs.Lines.{words_in, numbers_in}
+use Rattle.std.proofs.Common.{◌≡◌, ◌≤◌, length, List, ℕ, Bor, option_map}
+use Rattle.s66_cert.specs.{words_in, numbers_in}
 use Rattle.s66_cert.proofs.Short.{after_all, bytes_left}
 use Rattle.s66_cert.proofs.scan.numbers_in.Given as goal
 

@@ -1,7 +1,7 @@
 use Rattle.std.proofs.Common.{◌≡◌, ◌<◌, ◌^◌, drop}
-use Rattle.s66_isa.specs.Lists.{every}
-use Rattle.s66_line.specs.Characters.{is_decimal}
-use Rattle.s66_cert.specs.Lines.{value_after}
+use Rattle.s66_isa.specs.{every}
+use Rattle.s66_line.specs.{is_decimal}
+use Rattle.s66_cert.specs.{value_after}
 use Rattle.s66_cert.proofs.scan.value_of.Given as goal
 
 -- the value so far, and then that of the rest, is that of all

@@ -1,5 +1,5 @@
-use Rattle.std.proofs.Common.{rules}
 use Rattle.std.specs.Fmt.{digits}
+use Rattle.std.proofs.Common.{rules}
 use Rattle.s66_line.proofs.InstructionTexts.{instruction}
 use Rattle.s66_cert.proofs.Texts.{only-nothing, other-version, unfinished-line}
 use Rattle.s66_cert.proofs.text.text_examples.Goals as goal

@@ -1,6 +1,6 @@
 use Rattle.std.proofs.Common.{◌≡◌, drop}
-use Rattle.s66_isa.specs.Lists.{some_of}
-use Rattle.s66_moments.specs.Suppositions.{supposes}
+use Rattle.s66_isa.specs.{some_of}
+use Rattle.s66_moments.specs.{supposes}
 use Rattle.s66_cert.proofs.version.some_supposes.Given as goal
 
 abbrev pub invariant-loop-step : goal.invariant-loop-step

@@ -1,6 +1,6 @@
 use Rattle.std.proofs.Common.{◌≡◌, ◌<◌, ◌∷◌, ◌+◌, ℕ, List, length, drop, get_or, ap, subst, arith}
 use Rattle.std.proofs.lemmas.List.{drop_more}
-use Rattle.s66_cert.specs.NodePlaces.{AreTreeEnds}
+use Rattle.s66_cert.specs.{AreTreeEnds}
 use Rattle.s66_cert.proofs.NodePlaces.{end-read}
 use Rattle.s66_cert.proofs.PlacedLines.{IsOnTheWay, way-found, way-past, way-later}
 use Rattle.s66_cert.proofs.indexed_tree.IndexedTree.child_below.Goals as goal

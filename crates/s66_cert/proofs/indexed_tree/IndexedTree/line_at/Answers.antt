@@ -1,6 +1,6 @@
 use Rattle.std.proofs.Common.{length, sym, arith, rules, eqb-true}
-use Rattle.s66_isa.specs.declared.limits.TheConstants.{BLOCK_LIMIT}
-use Rattle.s66_model.specs.Lines.{vertex_of}
+use Rattle.s66_isa.specs.{BLOCK_LIMIT}
+use Rattle.s66_model.specs.{vertex_of}
 use Rattle.s66_cert.proofs.PlacedLines.{under-next, under-full, under-here}
 use Rattle.s66_cert.proofs.indexed_tree.IndexedTree.line_at.Goals as goal
 

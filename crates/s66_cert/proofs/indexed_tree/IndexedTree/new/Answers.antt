@@ -1,6 +1,6 @@
 use Rattle.std.proofs.Common.{◌≡◌, ◌<◌, ◌+◌, ◌-◌, ℕ, length, refl, ap, sym, subst, ◌∙◌, arith}
-use Rattle.s66_model.specs.Lines.{vertex_of}
-use Rattle.s66_cert.specs.NodePlaces.{IsEnd, AreTreeEnds, end_behind, sibling_count}
+use Rattle.s66_model.specs.{vertex_of}
+use Rattle.s66_cert.specs.{IsEnd, AreTreeEnds, end_behind, sibling_count}
 use Rattle.s66_cert.proofs.NodePlaces.{end-here, ends-more}
 use Rattle.s66_cert.proofs.indexed_tree.IndexedTree.new.Goals as goal
 

@@ -1,5 +1,5 @@
 use Rattle.std.proofs.Common.{◌≤◌, length}
-use Rattle.s66_cert.specs.NodePlaces.{AreTreeEnds}
+use Rattle.s66_cert.specs.{AreTreeEnds}
 use Rattle.s66_cert.proofs.indexed_tree.IndexedTree.new.Given as goal
 
 -- the ends of the lines from here on are known

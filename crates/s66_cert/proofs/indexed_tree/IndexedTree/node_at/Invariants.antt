@@ -1,7 +1,6 @@
 use Rattle.std.proofs.Common.{◌≡◌, ◌<◌, [], length, drop}
-use Rattle.s66_model.specs.NodeNames.{node_named}
-use Rattle.s66_cert.specs.DocumentParts.{tree_of_lines}
-use Rattle.s66_cert.specs.NodePlaces.{tree_at}
+use Rattle.s66_model.specs.{node_named}
+use Rattle.s66_cert.specs.{tree_of_lines, tree_at}
 use Rattle.s66_cert.proofs.indexed_tree.IndexedTree.node_at.Given as goal
 
 -- the node is the one of the rest of the name, from the line at the place

@@ -1,11 +1,9 @@
 use Rattle.std.proofs.Common.{arith, take, drop, ◌-◌, ◌∙◌, ap, sym}
-use Rattle.s66_isa.specs.declared.limits.TheConstants.{BLOCK_LIMIT}
-use Rattle.s66_cert.specs.declared.limits.TheConstants.{SPLIT_LIMIT}
-use Rattle.s66_cert.specs.Reading.{steps}
-use Rattle.s66_cert.specs.DocumentReader.{state}
+use Rattle.s66_isa.specs.{BLOCK_LIMIT}
+use Rattle.s66_cert.specs.{SPLIT_LIMIT, steps, state}
 use Rattle.s66_cert.proofs.ReaderSteps.{steps-newline, last-newline, cut-more}
-use Rattle.s66_cert.proofs.reader.Reader.take_all.Goals as goal
 use Rattle.s66_cert.proofs.reader.Reader.take_all.Goals.{then-byte-eq10+in_ok-take_line, else-byte-eq10}
+use Rattle.s66_cert.proofs.reader.Reader.take_all.Goals as goal
 
 pub loop-i-preserved : goal.loop-i-preserved
 loop-i-preserved c =

@@ -1,9 +1,6 @@
 use Rattle.std.proofs.Common.{◌≡◌, ◌≤◌, ◌-◌, [], take, drop}
-use Rattle.s66_cert.specs.Fine.{IsFine}
-use Rattle.s66_isa.specs.declared.limits.TheConstants.{BLOCK_LIMIT}
-use Rattle.s66_cert.specs.declared.limits.TheConstants.{SPLIT_LIMIT}
-use Rattle.s66_cert.specs.Reading.{steps, whole_lines, last_bytes}
-use Rattle.s66_cert.specs.DocumentReader.{state}
+use Rattle.s66_isa.specs.{BLOCK_LIMIT}
+use Rattle.s66_cert.specs.{IsFine, SPLIT_LIMIT, steps, whole_lines, last_bytes, state}
 use Rattle.s66_cert.proofs.reader.Reader.take_all.Given as goal
 
 -- the lines so far, and then those of the rest, are those of all

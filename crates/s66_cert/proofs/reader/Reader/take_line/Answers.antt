@@ -1,8 +1,6 @@
-use Rattle.std.proofs.Common.{ap, sym, ◌∙◌, arith}
-use Rattle.std.specs.Option.{option_map}
-use Rattle.s66_isa.specs.declared.limits.TheConstants.{BLOCK_LIMIT}
-use Rattle.s66_cert.specs.DocumentReader.{state}
-use Rattle.s66_cert.specs.Said.{said}
+use Rattle.std.proofs.Common.{ap, sym, ◌∙◌, arith, option_map}
+use Rattle.s66_isa.specs.{BLOCK_LIMIT}
+use Rattle.s66_cert.specs.{state, said}
 use Rattle.s66_cert.proofs.LineTexts.{line-is}
 use Rattle.s66_cert.proofs.ReaderSteps.{count-kept, fine-kept}
 use Rattle.s66_cert.proofs.reader.Reader.take_line.Goals as goal

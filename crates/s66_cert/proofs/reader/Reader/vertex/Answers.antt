@@ -1,4 +1,4 @@
-use Rattle.s66_cert.specs.DocumentReader.{state}
+use Rattle.s66_cert.specs.{state}
 use Rattle.s66_cert.proofs.Places.{few_trees}
 use Rattle.s66_cert.proofs.reader.Reader.vertex.Goals as goal
 
