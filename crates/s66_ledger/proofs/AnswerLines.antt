@@ -1,32 +1,21 @@
 -- What the nodes of one tree state at a prefix that has a node, and the lines that are appended there.
-use Rattle.std.proofs.Common.{ℕ, zero, suc, ◌+◌, ◌≤◌, ◌<◌, ◌≡◌, ◌≢◌, Bool, true, false, cond, List, [], ◌∷◌, ◌++◌, length, get_or, refl, sym, ap, arith, inl, inr, subst, length-append, append_assoc, ◌∙◌}
-use Rattle.std.proofs.lemmas.Bool.{lt-ltb, ltb-true, le-ltb}
-use Rattle.s66_isa.specs.Lists.{tally, Among}
+use Rattle.std.proofs.Common.{ℕ, zero, suc, ◌+◌, ◌≤◌, ◌<◌, ◌≡◌, ◌≢◌, Bool, true, false, cond, List, [], ◌∷◌, ◌++◌, length, get_or, refl, sym, ap, arith, inl, inr, subst, length-append, append_assoc}
+use Rattle.std.proofs.Common.{◌∙◌, lt-ltb, ltb-true, le-ltb}
+use Rattle.s66_isa.specs.{tally, Among}
 use Rattle.s66_isa.proofs.Lists.{cases_le}
-use Rattle.s66_line.proofs.OperationLaw.{among-at}
-use Rattle.s66_model.specs.Timing.{Problem}
-use Rattle.s66_model.specs.LegalOrder.{is_ready, ready, IsBeginning, IsIncomplete}
-use Rattle.s66_model.specs.Leaves.{floor}
-use Rattle.s66_model.specs.Trees.{AtTerminal, AtSplit, flat}
-use Rattle.s66_model.specs.Later.{children, later}
-use Rattle.s66_model.proofs.VertexLines.{lines-unsplit, lines-split, lines-tree, lines-both}
-use Rattle.s66_model.specs.DominatedLeaves.{Bounding, Dominated}
+use Rattle.s66_model.specs.{Problem, is_ready, ready, IsBeginning, IsIncomplete, floor, AtTerminal, AtSplit, flat, children, later, Bounding, Dominated, stands_at, is_cut_at, IsTable, is_split_at}
+use Rattle.s66_model.specs.{state_ending, ending_at, node_tree}
 use Rattle.s66_model.specs.LedgerRuns as model
-use Rattle.s66_model.specs.NodeTable.{stands_at, is_cut_at, IsTable}
-use Rattle.s66_model.specs.NodeTree.{is_split_at, state_ending, ending_at, node_tree}
+use Rattle.s66_model.proofs.VertexLines.{lines-unsplit, lines-split, lines-tree, lines-both}
 use Rattle.s66_model.proofs.Beginnings.{beginning-front}
 use Rattle.s66_model.proofs.LegalOrders.{GoesOn-append}
 use Rattle.s66_model.proofs.NodeTrees.{some-passes, passes-some, is-same, uncut-stands, cut-counts, split-part, one-node, ending-is}
 use Rattle.s66_model.proofs.OneTree.{same-is}
-use Rattle.s66_node.specs.Walked.{front}
-use Rattle.s66_node.proofs.Growing.{front-push}
-use Rattle.s66_node.specs.declared.node.Node.{Node}
-use Rattle.s66_node.specs.declared.node.State.{State}
+use Rattle.s66_line.proofs.OperationLaw.{among-at}
+use Rattle.s66_node.specs.{front, Node, State}
 use Rattle.s66_node.specs.declared.node.State.TheVariants as state
-use Rattle.s66_ledger.specs.AnswerLines.{AreOneTree, StandsAt, lines_from}
-use Rattle.s66_ledger.specs.LedgerMachine.{ledger_from}
-use Rattle.s66_ledger.specs.Links.{parent_of, IsChild, HasChild}
-use Rattle.s66_ledger.specs.Nodes.{stored_at, no_stored, nodes_of, prefixes, name_at, seen_state}
+use Rattle.s66_node.proofs.Growing.{front-push}
+use Rattle.s66_ledger.specs.{AreOneTree, StandsAt, lines_from, ledger_from, parent_of, IsChild, HasChild, stored_at, no_stored, nodes_of, prefixes, name_at, seen_state}
 use Rattle.s66_ledger.proofs.NodePrefixes.{parent_at, prefix-at, prefix-none, name-node}
 use Rattle.s66_ledger.proofs.SeenNodes.{at-nodes, length-nodes}
 use Rattle.s66_ledger.proofs.ParentPaths.{push-same}

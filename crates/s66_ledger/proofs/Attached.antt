@@ -1,26 +1,16 @@
 -- After a piece is put in the place of a node, the nodes of the ledger are those of one tree again.
 use Rattle.std.proofs.Common.{ℕ, zero, suc, ◌+◌, ◌^◌, ◌<◌, ◌≡◌, ◌≢◌, Bool, true, false, cond, nat_le, List, [], ◌∷◌, ◌++◌, length, take, drop, get_or, refl, sym, ap, arith, ◌∙◌, subst, inl, inr}
+use Rattle.std.proofs.Common.{append-nil, length-set}
 use Rattle.std.proofs.lemmas.Bool.{cases_eq}
-use Rattle.std.proofs.lemmas.List.{append-nil, length-set}
-use Rattle.s66_model.specs.Timing.{Problem}
-use Rattle.s66_model.specs.LegalOrder.{ready}
-use Rattle.s66_model.specs.Leaves.{floor}
-use Rattle.s66_model.specs.Trees.{Tree, Alone, Parted, Vertex, AtTerminal, AtSplit, flat}
-use Rattle.s66_model.specs.DominatedLeaves.{Bounding}
-use Rattle.s66_model.specs.Piece.{Terminal, Carries, Frontier, Passed, TerminalHolds}
-use Rattle.s66_model.specs.Recorded.{TerminalOpens, TreeOpens}
+use Rattle.s66_model.specs.{Problem, ready, floor, Tree, Alone, Parted, Vertex, AtTerminal, AtSplit, flat, Bounding, Terminal, Carries, Frontier, Passed, TerminalHolds, TerminalOpens, TreeOpens}
+use Rattle.s66_model.specs.{root_state, new_nodes}
 use Rattle.s66_model.specs.LedgerRuns as model
-use Rattle.s66_model.specs.LedgerRuns.{root_state, new_nodes}
-use Rattle.s66_node.specs.declared.node.Node.{Node}
-use Rattle.s66_node.specs.declared.node.State.{State}
+use Rattle.s66_node.specs.{Node, State, tree_prefixes, has_floor, is_stored_open, prefixes_over, node_line, Named, named_at, node_lines, IsNode, NodesFrom, AreNodes, PieceOf, prefixes_of, tree_of}
+use Rattle.s66_node.specs.{AreTreeNodes}
 use Rattle.s66_node.specs.declared.node.State.TheVariants as state
-use Rattle.s66_node.specs.Growing.{tree_prefixes}
-use Rattle.s66_node.specs.Nodes.{has_floor, is_stored_open, prefixes_over, node_line, Named, named_at, node_lines, IsNode, NodesFrom, AreNodes}
-use Rattle.s66_node.specs.Pieces.{PieceOf, prefixes_of, tree_of, AreTreeNodes}
 use Rattle.s66_node.proofs.Nodes.{length-prefixes_over, length-lines}
-use Rattle.s66_ledger.specs.Nodes.{prefixes, name_at, seen_state, nodes_of, made_lines, no_stored, stored_at, put_state, HaveFloors, HaveDepths}
-use Rattle.s66_ledger.specs.OpenNodes.{StoresOut}
-use Rattle.s66_ledger.specs.Grafting.{placed_parent, settled_state, opened_state, IsNamed, IsGrafting, IsSplitUnder, root_line, IsAttachedAs}
+use Rattle.s66_ledger.specs.{prefixes, name_at, seen_state, nodes_of, made_lines, no_stored, stored_at, put_state, HaveFloors, HaveDepths, StoresOut, placed_parent, settled_state, opened_state}
+use Rattle.s66_ledger.specs.{IsNamed, IsGrafting, IsSplitUnder, root_line, IsAttachedAs}
 use Rattle.s66_ledger.proofs.NodePrefixes.{prefixes-set}
 use Rattle.s66_ledger.proofs.SeenNodes.{nodes-set, nodes-state, lines-state, at-nodes, length-nodes}
 use Rattle.s66_ledger.proofs.NodeFloors.{floors-state}

@@ -1,10 +1,9 @@
 -- The children of a node, linked from the last made on (`Links::of`).
-use Rattle.std.proofs.Common.{ℕ, zero, suc, ◌+◌, ◌≤◌, ◌<◌, ◌≡◌, ◌≢◌, Bool, true, false, cond, eqb, List, length, get_or, set, add-one, length-set, sym, ap, arith, inl, inr, ◌∙◌}
-use Rattle.std.proofs.lemmas.Bool.{cases_eq, eq-eqb, ne_eqb}
-use Rattle.std.proofs.lemmas.List.{get_or-set_same, get_or-set_other}
-use Rattle.s66_node.specs.declared.node.Node.{Node}
-use Rattle.s66_ledger.specs.Nodes.{stored_at}
-use Rattle.s66_ledger.specs.Links.{parent_of, child_below, AreLinks, IsChild, HasChild}
+use Rattle.std.proofs.Common.{ℕ, zero, suc, ◌+◌, ◌≤◌, ◌<◌, ◌≡◌, ◌≢◌, Bool, true, false, cond, eqb, List, length, get_or, set, add-one, length-set, sym, ap, arith, inl, inr, ◌∙◌, eq-eqb, ne_eqb}
+use Rattle.std.proofs.Common.{get_or-set_same, get_or-set_other}
+use Rattle.std.proofs.lemmas.Bool.{cases_eq}
+use Rattle.s66_node.specs.{Node}
+use Rattle.s66_ledger.specs.{stored_at, parent_of, child_below, AreLinks, IsChild, HasChild}
 
 pub child-before : (nodes : List Node) (parent k : ℕ) → 0 < k → child_below nodes parent k < k
 child-before nodes parent zero some = absurd (omega (arith, some))

@@ -1,12 +1,10 @@
 -- The depths that nodes keep: of one node more, and of a node in another state.
-use Rattle.std.proofs.Common.{ℕ, zero, suc, ◌+◌, ◌<◌, ◌≡◌, min, List, [], ◌∷◌, ◌++◌, length, get_or, set, refl, ap, arith, inl, inr, ◌∙◌, length-append}
+use Rattle.std.proofs.Common.{ℕ, zero, suc, ◌+◌, ◌<◌, ◌≡◌, min, List, [], ◌∷◌, ◌++◌, length, get_or, set, refl, ap, arith, inl, inr, ◌∙◌, length-append, length-set}
 use Rattle.std.proofs.lemmas.Bool.{cases_eq}
-use Rattle.std.proofs.lemmas.List.{length-set}
 use Rattle.s66_isa.proofs.Lists.{cases_le}
-use Rattle.s66_node.specs.declared.node.Node.{Node}
-use Rattle.s66_node.specs.declared.node.State.{State}
-use Rattle.s66_ledger.specs.Nodes.{prefixes, stored_at, no_stored, put_state, HaveDepths}
+use Rattle.s66_node.specs.{Node, State}
 use Rattle.s66_node.proofs.Nodes.{get_or-front, get_or-last}
+use Rattle.s66_ledger.specs.{prefixes, stored_at, no_stored, put_state, HaveDepths}
 use Rattle.s66_ledger.proofs.NodePrefixes.{get_or-any, push-front, push-last, prefixes-set}
 use Rattle.s66_ledger.proofs.OpenHeap.{set-here, set-other}
 

@@ -1,21 +1,13 @@
 -- A ledger that some events lead to its end: that it has ended, and what its answer is then.
 use Rattle.std.proofs.Common.{ℕ, ◌≡◌, ◌≢◌, true, List, [], ◌∷◌, ◌++◌, length, refl, sym, ap, arith, inl, inr, ◌∙◌, subst}
 use Rattle.std.proofs.lemmas.Bool.{cases_eq}
-use Rattle.s66_isa.specs.Lists.{Among}
-use Rattle.s66_model.specs.declared.rule.Rule.{Rule}
-use Rattle.s66_model.specs.Timing.{Problem}
-use Rattle.s66_model.specs.LegalOrder.{IsBeginning}
-use Rattle.s66_model.specs.LedgerRuns.{Node, Open, Out, Cut, Closed, State, is_open_state, is_live_state, best_time}
-use Rattle.s66_model.specs.Coverage.{Covers, NodesHold, IsFinished, bound_of}
-use Rattle.s66_model.specs.Reached.{IsReached}
-use Rattle.s66_model.specs.Ended.{IsEnded, ended_answer}
-use Rattle.s66_time.proofs.LongestBeginning.{beginning-few}
+use Rattle.s66_isa.specs.{Among}
+use Rattle.s66_model.specs.{Rule, Problem, IsBeginning, Node, Open, Out, Cut, Closed, State, is_open_state, is_live_state, best_time, Covers, NodesHold, IsFinished, bound_of, IsReached, IsEnded}
+use Rattle.s66_model.specs.{ended_answer}
 use Rattle.s66_model.proofs.Histories.{run-join, reached-covers, reached-table}
 use Rattle.s66_model.proofs.EndedLedgers.{ended-finishes}
-use Rattle.s66_ledger.specs.Ledgers.{LedgerOf}
-use Rattle.s66_ledger.specs.LedgerMachine.{MachineOf, Stored, IsKeptMachine, ledger_of, machine_of}
-use Rattle.s66_ledger.specs.Answers.{IsKeptAnswer, ended_of}
-use Rattle.s66_ledger.specs.Finishing.{Leads, IsSearched}
+use Rattle.s66_time.proofs.LongestBeginning.{beginning-few}
+use Rattle.s66_ledger.specs.{LedgerOf, MachineOf, Stored, IsKeptMachine, ledger_of, machine_of, IsKeptAnswer, ended_of, Leads, IsSearched}
 use Rattle.s66_ledger.proofs.Events.{kept-covers, kept-room}
 use Rattle.s66_ledger.proofs.SeenNodes.{length-nodes}
 

@@ -1,32 +1,20 @@
 -- Each event keeps what a ledger's type keeps, and is a step of the machine.
-use Rattle.std.proofs.Common.{ℕ, zero, suc, ◌+◌, ◌-◌, ◌*◌, ◌≤◌, ◌<◌, ◌≡◌, Bool, true, false, List, [], ◌∷◌, length, get_or, set, refl, sym, ap, arith, subst, ◌∙◌, Some, None, IsTrue, ◌↔◌, min, replicate, length-append}
-use Rattle.std.proofs.lemmas.List.{length-set, length-replicate}
-use Rattle.s66_isa.specs.Lists.{tally, weigh}
-use Rattle.s66_isa.specs.Table.{numbers}
-use Rattle.s66_isa.specs.declared.limits.TheConstants.{BLOCK_LIMIT}
-use Rattle.s66_model.specs.declared.rule.Rule.{Rule}
-use Rattle.s66_model.specs.Timing.{Problem, total_of}
-use Rattle.s66_model.specs.LegalOrder.{IsLegal, IsBeginning}
-use Rattle.s66_model.specs.Leaves.{floor_value}
+use Rattle.std.proofs.Common.{ℕ, zero, suc, ◌+◌, ◌-◌, ◌*◌, ◌≤◌, ◌<◌, ◌≡◌, Bool, true, false, List, [], ◌∷◌, length, get_or, set, refl, sym, ap, arith, subst, ◌∙◌, Some, None, IsTrue, ◌↔◌, min}
+use Rattle.std.proofs.Common.{replicate, length-append, length-set}
+use Rattle.std.proofs.lemmas.List.{length-replicate}
+use Rattle.s66_isa.specs.{tally, weigh, numbers, BLOCK_LIMIT}
+use Rattle.s66_model.specs.{Rule, Problem, total_of, IsLegal, IsBeginning, floor_value, best_time, Event, Grant, Claim, Offer, Back, Retire, Reply, Granted, Claimed, NotOut, Lower, NotLower}
+use Rattle.s66_model.specs.{OtherBlock, Returned, Retired, Moves, Step, Covers, NodesHold, source_time, IsReached, IsOfferOf, BUDGET_LIMIT}
 use Rattle.s66_model.specs.LedgerRuns as model
-use Rattle.s66_model.specs.LedgerRuns.{best_time, Event, Grant, Claim, Offer, Back, Retire, Reply, Granted, Claimed, NotOut, Lower, NotLower, OtherBlock, Returned, Retired, Moves, Step}
-use Rattle.s66_model.specs.Coverage.{Covers, NodesHold}
-use Rattle.s66_model.specs.Answer.{source_time}
-use Rattle.s66_model.specs.Reached.{IsReached}
-use Rattle.s66_model.specs.Recorded.{IsOfferOf}
 use Rattle.s66_model.proofs.Histories.{reached-step, reached-covers}
 use Rattle.s66_model.proofs.Beginnings.{beginning-front}
 use Rattle.s66_model.proofs.FloorParts.{leaf-fits}
 use Rattle.s66_model.proofs.Floors.{floor-stands}
 use Rattle.s66_time.specs.TimedOrder.{TimedOrder}
-use Rattle.s66_node.specs.declared.node.Node.{Node}
-use Rattle.s66_node.specs.declared.node.State.{State}
+use Rattle.s66_node.specs.{Node, State, has_floor, is_stored_open}
 use Rattle.s66_node.specs.declared.node.State.TheVariants as state
-use Rattle.s66_model.specs.declared.limits.TheConstants.{BUDGET_LIMIT}
-use Rattle.s66_node.specs.Nodes.{has_floor, is_stored_open}
-use Rattle.s66_ledger.specs.Nodes.{prefixes, name_at, seen_state, nodes_of, stored_at, put_state, HaveFloors, stores_open}
-use Rattle.s66_ledger.specs.OpenNodes.{StoresOut, ranked}
-use Rattle.s66_ledger.specs.LedgerMachine.{MachineOf, IsMove, Stored, ledger_from, ledger_of, machine_of, IsKeptMachine}
+use Rattle.s66_ledger.specs.{prefixes, name_at, seen_state, nodes_of, stored_at, put_state, HaveFloors, stores_open, StoresOut, ranked, MachineOf, IsMove, Stored, ledger_from, ledger_of, machine_of}
+use Rattle.s66_ledger.specs.{IsKeptMachine}
 use Rattle.s66_ledger.proofs.SeenNodes.{length-nodes, at-nodes, open-seen, open-nodes, out-seen, nodes-state}
 use Rattle.s66_ledger.proofs.NodeFloors.{floors-state}
 

@@ -1,26 +1,14 @@
 -- Each reply that the machine may give to a piece: taken, or refused for a reason.
-use Rattle.std.proofs.Common.{ℕ, ◌+◌, ◌-◌, ◌*◌, ◌≤◌, ◌<◌, ◌^◌, ◌≡◌, Bool, true, false, true≢false, cond, List, [], ◌∷◌, ◌++◌, length, drop, get_or, set, refl, sym, ap, arith, subst, ◌∙◌, Some, None, length-append}
-use Rattle.std.proofs.lemmas.List.{length-set}
-use Rattle.s66_isa.specs.declared.limits.TheConstants.{BLOCK_LIMIT}
-use Rattle.s66_isa.specs.Lists.{weigh}
+use Rattle.std.proofs.Common.{ℕ, ◌+◌, ◌-◌, ◌*◌, ◌≤◌, ◌<◌, ◌^◌, ◌≡◌, Bool, true, false, true≢false, cond, List, [], ◌∷◌, ◌++◌, length, drop, get_or, set, refl, sym, ap, arith, subst, ◌∙◌, Some, None}
+use Rattle.std.proofs.Common.{length-append, length-set}
+use Rattle.s66_isa.specs.{BLOCK_LIMIT, weigh, Instr, numbers}
 use Rattle.s66_isa.proofs.Lists.{ones, weigh-filter}
-use Rattle.s66_isa.specs.declared.instr.Instr.{Instr}
-use Rattle.s66_isa.specs.Table.{numbers}
-use Rattle.s66_model.specs.Timing.{Problem, total_of}
-use Rattle.s66_model.specs.LegalOrder.{ready, is_ready}
-use Rattle.s66_model.specs.Trees.{Tree, Alone, Parted, Siblings, NoMore, Unsplit, Split, SiblingsHold, TreeHolds, flat_siblings, flat, sibling_splits, splits}
-use Rattle.s66_model.specs.Piece.{Terminal, TerminalHolds, IsPiece}
+use Rattle.s66_model.specs.{Problem, total_of, ready, is_ready, Tree, Alone, Parted, Siblings, NoMore, Unsplit, Split, SiblingsHold, TreeHolds, flat_siblings, flat, sibling_splits, splits, Terminal}
+use Rattle.s66_model.specs.{TerminalHolds, IsPiece, Reply, Graft, Taken, NotOut, OtherPrefix, OverAllowance, Moves, root_state, new_nodes, AreNamed, graft_event, IsOwnPiece}
 use Rattle.s66_model.specs.LedgerRuns as model
-use Rattle.s66_model.specs.LedgerRuns.{Reply, Graft, Taken, NotOut, OtherPrefix, OverAllowance, Moves, root_state, new_nodes, AreNamed}
-use Rattle.s66_model.specs.Recorded.{graft_event, IsOwnPiece}
 use Rattle.s66_model.proofs.Beginnings.{length-rising}
-use Rattle.s66_node.specs.declared.node.Node.{Node}
-use Rattle.s66_node.specs.Pieces.{PieceOf, tree_of, AreTreeNodes}
-use Rattle.s66_ledger.specs.Nodes.{prefixes, name_at, stored_at, nodes_of, made_lines, HaveFloors}
-use Rattle.s66_ledger.specs.OpenNodes.{StoresOut}
-use Rattle.s66_ledger.specs.LedgerMachine.{MachineOf, Stored, ledger_of, machine_of, IsKeptMachine}
-use Rattle.s66_ledger.specs.Grafting.{IsAttachedAs}
-use Rattle.s66_ledger.specs.GraftMoves.{IsGraftMove, IsTakenMove}
+use Rattle.s66_node.specs.{Node, PieceOf, tree_of, AreTreeNodes}
+use Rattle.s66_ledger.specs.{prefixes, name_at, stored_at, nodes_of, made_lines, HaveFloors, StoresOut, MachineOf, Stored, ledger_of, machine_of, IsKeptMachine, IsAttachedAs, IsGraftMove, IsTakenMove}
 use Rattle.s66_ledger.proofs.SeenNodes.{length-nodes, at-nodes, out-seen}
 use Rattle.s66_ledger.proofs.Taken.{same-splits, taken-whole}
 use Rattle.s66_ledger.proofs.Attached.{piece-length}

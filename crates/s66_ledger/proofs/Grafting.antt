@@ -1,22 +1,16 @@
 -- The nodes of a piece appended one by one after those of a ledger, with names that are found or not.
-use Rattle.std.proofs.Common.{ℕ, zero, suc, ◌+◌, ◌^◌, ◌≤◌, ◌<◌, ◌≡◌, min, Bool, true, false, cond, nat_le, List, [], ◌∷◌, ◌++◌, length, take, get_or, refl, sym, ap, arith, inl, inr, ◌∙◌, subst, append_assoc, length-append}
-use Rattle.std.proofs.lemmas.List.{append-nil, take_more}
+use Rattle.std.proofs.Common.{ℕ, zero, suc, ◌+◌, ◌^◌, ◌≤◌, ◌<◌, ◌≡◌, min, Bool, true, false, cond, nat_le, List, [], ◌∷◌, ◌++◌, length, take, get_or, refl, sym, ap, arith, inl, inr, ◌∙◌, subst}
+use Rattle.std.proofs.Common.{append_assoc, length-append, append-nil}
+use Rattle.std.proofs.lemmas.List.{take_more}
 use Rattle.s66_isa.proofs.Lists.{cases_le}
-use Rattle.s66_model.specs.Timing.{Problem}
-use Rattle.s66_model.specs.LegalOrder.{ready}
-use Rattle.s66_model.specs.Leaves.{floor, floor_value}
-use Rattle.s66_model.specs.Trees.{Vertex, AtTerminal, AtSplit}
-use Rattle.s66_model.specs.DominatedLeaves.{Bounding}
-use Rattle.s66_model.specs.Piece.{Terminal, Carries, Frontier, Passed}
+use Rattle.s66_model.specs.{Problem, ready, floor, floor_value, Vertex, AtTerminal, AtSplit, Bounding, Terminal, Carries, Frontier, Passed}
 use Rattle.s66_model.specs.LedgerRuns as model
-use Rattle.s66_node.specs.declared.node.Node.{Node}
-use Rattle.s66_node.specs.declared.node.State.{State}
+use Rattle.s66_node.specs.{Node, State, has_floor, prefixes_from, node_line, Named, named_at, node_lines, IsNode, NodesFrom, AreNodes}
 use Rattle.s66_node.specs.declared.node.State.TheVariants as state
-use Rattle.s66_node.specs.Nodes.{has_floor, prefixes_from, node_line, Named, named_at, node_lines, IsNode, NodesFrom, AreNodes}
 use Rattle.s66_node.proofs.Nodes.{get_or-front, get_or-last}
-use Rattle.s66_ledger.specs.Nodes.{prefixes, seen_state, seen_node, made_line, nodes_of, made_lines, no_stored, stored_at, is_stored_out, stores_out, HaveFloors, HaveDepths}
-use Rattle.s66_ledger.specs.OpenNodes.{StoresOut}
-use Rattle.s66_ledger.specs.Grafting.{placed_parent, placed, IsNamed, GraftsIn, Grafts, AreGrafted, IsGrafting, HaveNames}
+use Rattle.s66_ledger.specs.{prefixes, seen_state, seen_node, made_line, nodes_of, made_lines, no_stored, stored_at, is_stored_out, stores_out, HaveFloors, HaveDepths, StoresOut, placed_parent}
+use Rattle.s66_ledger.specs.{placed, IsNamed, GraftsIn, AreGrafted, IsGrafting, HaveNames}
+use Rattle.s66_ledger.specs.Grafting.{Grafts}
 use Rattle.s66_ledger.proofs.NodePrefixes.{get_or-any, push-front, push-last}
 use Rattle.s66_ledger.proofs.SeenNodes.{nodes-push, lines-push}
 use Rattle.s66_ledger.proofs.NodeFloors.{floors-push}

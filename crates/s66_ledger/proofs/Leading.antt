@@ -1,12 +1,10 @@
 -- Events lead from one ledger to another, and on; what holds at each place of a list.
 use Rattle.std.proofs.Common.{ℕ, zero, suc, ◌≡◌, ◌≤◌, ◌<◌, List, [], ◌∷◌, ◌++◌, length, get_or, set, refl, sym, ap, arith, inl, inr, subst, ◌∙◌}
-use Rattle.s66_isa.specs.Lists.{Among}
-use Rattle.s66_model.specs.Timing.{Problem}
-use Rattle.s66_model.specs.LedgerRuns.{best_time, Event, Reply, Run}
+use Rattle.s66_isa.specs.{Among}
+use Rattle.s66_model.specs.{Problem, best_time, Event, Reply, Run}
 use Rattle.s66_model.proofs.Histories.{run-join}
 use Rattle.s66_model.proofs.LedgerRuns.{run-falls}
-use Rattle.s66_ledger.specs.Finishing.{Leads}
-use Rattle.s66_ledger.specs.Ledgers.{LedgerOf, IsEvent}
+use Rattle.s66_ledger.specs.{Leads, LedgerOf, IsEvent}
 
 pub leads-nowhere : (l : LedgerOf) → Leads l l
 leads-nowhere l = (refl, refl, refl, ([], refl), refl)

@@ -1,17 +1,13 @@
 -- How many nodes are out, and how deep those are that are open or out: of one node more, and of a node in another state.
 use Rattle.std.proofs.Common.{ℕ, zero, suc, ◌+◌, ◌≤◌, ◌<◌, ◌≡◌, Bool, true, false, cond, List, [], ◌∷◌, ◌++◌, length, get_or, set, refl, sym, ap, arith, inl, inr, ◌∙◌, length-append}
 use Rattle.std.proofs.lemmas.Bool.{cases_eq, cases_Bool}
-use Rattle.s66_isa.specs.Lists.{tally}
+use Rattle.s66_isa.specs.{tally}
 use Rattle.s66_isa.proofs.Lists.{tally-set, tally-append, cases_le, get_or-past}
-use Rattle.s66_node.specs.declared.node.Node.{Node}
-use Rattle.s66_node.specs.declared.node.State.{State}
+use Rattle.s66_node.specs.{Node, State, is_stored_open, is_stored_live}
 use Rattle.s66_node.specs.declared.node.State.TheVariants as state
-use Rattle.s66_node.specs.Nodes.{is_stored_open, is_stored_live}
-use Rattle.s66_ledger.specs.Nodes.{stored_at, no_stored, is_stored_out, stores_out}
-use Rattle.s66_ledger.specs.OpenNodes.{StoresOut}
-use Rattle.s66_ledger.specs.LiveNodes.{AreCounted}
-use Rattle.s66_ledger.proofs.OpenHeap.{set-here, set-other}
 use Rattle.s66_node.proofs.Nodes.{get_or-front, get_or-last}
+use Rattle.s66_ledger.specs.{stored_at, no_stored, is_stored_out, stores_out, StoresOut, AreCounted}
+use Rattle.s66_ledger.proofs.OpenHeap.{set-here, set-other}
 
 pub one : (b c : Bool) → b ≡ c → ◌≡◌ {A = ℕ} (cond b 1 0) (cond c 1 0)
 one b c e = ap (λ t. cond {A = ℕ} t 1 0) e

@@ -1,17 +1,12 @@
 -- The floors of the nodes that are open or out, and the least of them.
-use Rattle.std.proofs.Common.{ℕ, suc, ◌+◌, ◌<◌, ◌≡◌, true, false, cond, min, List, [], ◌∷◌, ◌++◌, length, take, get_or, refl, sym, ap, arith, ◌∙◌, append_assoc}
-use Rattle.std.proofs.lemmas.List.{append-nil, take_more}
-use Rattle.s66_isa.specs.Lists.{least}
-use Rattle.s66_model.specs.Timing.{Problem}
-use Rattle.s66_model.specs.Leaves.{floor_value}
+use Rattle.std.proofs.Common.{ℕ, suc, ◌+◌, ◌<◌, ◌≡◌, true, false, cond, min, List, [], ◌∷◌, ◌++◌, length, take, get_or, refl, sym, ap, arith, ◌∙◌, append_assoc, append-nil}
+use Rattle.std.proofs.lemmas.List.{take_more}
+use Rattle.s66_isa.specs.{least}
+use Rattle.s66_model.specs.{Problem, floor_value, live_floors}
 use Rattle.s66_model.specs.LedgerRuns as model
-use Rattle.s66_model.specs.Coverage.{live_floors}
-use Rattle.s66_node.specs.declared.node.Node.{Node}
-use Rattle.s66_node.specs.declared.node.State.{State}
+use Rattle.s66_node.specs.{Node, State, has_floor, is_stored_live}
 use Rattle.s66_node.specs.declared.node.State.TheVariants as state
-use Rattle.s66_node.specs.Nodes.{has_floor, is_stored_live}
-use Rattle.s66_ledger.specs.Nodes.{prefixes, seen_state, seen_node, seen_at, nodes_of, stored_at, HaveFloors}
-use Rattle.s66_ledger.specs.LiveNodes.{live_values}
+use Rattle.s66_ledger.specs.{prefixes, seen_state, seen_node, seen_at, nodes_of, stored_at, HaveFloors, live_values}
 use Rattle.s66_ledger.proofs.NodePrefixes.{length-prefixes}
 
 -- AS THE DEFINITION HAS THEM

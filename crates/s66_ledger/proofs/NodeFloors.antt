@@ -1,15 +1,11 @@
 -- The floors that nodes keep: of one node more, and of a node in another state.
-use Rattle.std.proofs.Common.{ℕ, ◌<◌, ◌≡◌, true, List, [], ◌∷◌, ◌++◌, length, get_or, set, refl, sym, ap, arith, inl, inr, ◌∙◌, subst, length-append}
+use Rattle.std.proofs.Common.{ℕ, ◌<◌, ◌≡◌, true, List, [], ◌∷◌, ◌++◌, length, get_or, set, refl, sym, ap, arith, inl, inr, ◌∙◌, subst, length-append, length-set}
 use Rattle.std.proofs.lemmas.Bool.{cases_eq}
-use Rattle.std.proofs.lemmas.List.{length-set}
 use Rattle.s66_isa.proofs.Lists.{cases_le}
-use Rattle.s66_model.specs.Timing.{Problem}
-use Rattle.s66_model.specs.Leaves.{floor_value}
-use Rattle.s66_node.specs.declared.node.Node.{Node}
-use Rattle.s66_node.specs.declared.node.State.{State}
-use Rattle.s66_node.specs.Nodes.{has_floor}
-use Rattle.s66_ledger.specs.Nodes.{prefixes, stored_at, no_stored, put_state, HaveFloors}
+use Rattle.s66_model.specs.{Problem, floor_value}
+use Rattle.s66_node.specs.{Node, State, has_floor}
 use Rattle.s66_node.proofs.Nodes.{get_or-front, get_or-last}
+use Rattle.s66_ledger.specs.{prefixes, stored_at, no_stored, put_state, HaveFloors}
 use Rattle.s66_ledger.proofs.NodePrefixes.{push-front, push-last, prefixes-set}
 use Rattle.s66_ledger.proofs.OpenHeap.{set-here, set-other}
 

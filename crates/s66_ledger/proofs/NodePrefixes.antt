@@ -1,12 +1,11 @@
 -- The prefixes of nodes: of one more node, of nodes with other states, and up to the parent.
-use Rattle.std.proofs.Common.{ℕ, zero, suc, ◌+◌, ◌≤◌, ◌<◌, ◌≡◌, false, cond, List, [], ◌∷◌, ◌++◌, length, take, get_or, set, refl, sym, ap, arith, inl, inr, ◌∙◌, ltb, length-append}
-use Rattle.std.proofs.lemmas.Bool.{cases_Bool, lt-ltb, ltb-true}
-use Rattle.std.proofs.lemmas.List.{length-take}
+use Rattle.std.proofs.Common.{ℕ, zero, suc, ◌+◌, ◌≤◌, ◌<◌, ◌≡◌, false, cond, List, [], ◌∷◌, ◌++◌, length, take, get_or, set, refl, sym, ap, arith, inl, inr, ◌∙◌, ltb, length-append, lt-ltb, ltb-true}
+use Rattle.std.proofs.Common.{length-take}
+use Rattle.std.proofs.lemmas.Bool.{cases_Bool}
 use Rattle.s66_isa.proofs.Lists.{cases_le, get_or-past}
-use Rattle.s66_node.specs.declared.node.Node.{Node}
-use Rattle.s66_node.specs.Nodes.{prefixes_from}
-use Rattle.s66_ledger.specs.Nodes.{prefixes, name_at, stored_at}
+use Rattle.s66_node.specs.{Node, prefixes_from}
 use Rattle.s66_node.proofs.Nodes.{get_or-front, get_or-last, prefixes_from-push, length-prefixes_from}
+use Rattle.s66_ledger.specs.{prefixes, name_at, stored_at}
 
 -- LISTS
 

@@ -1,23 +1,17 @@
 -- The heap of open nodes: one taken, one put in.
 use Rattle.std.proofs.Common.{ℕ, zero, suc, ◌+◌, ◌≤◌, ◌<◌, ◌≡◌, ◌≢◌, Bool, true, false, cond, ◌==◌, List, [], ◌∷◌, ◌++◌, length, set, refl, sym, ap, arith, inl, inr, eqb, ◌∙◌, subst, length-append}
-use Rattle.std.proofs.lemmas.Bool.{cases_Bool, cases_eq, eq-eqb, ne_eqb, eqb-true}
-use Rattle.std.proofs.lemmas.List.{length-set}
+use Rattle.std.proofs.Common.{eq-eqb, ne_eqb, eqb-true, length-set, All, sum_by, IsPermutation}
+use Rattle.std.proofs.lemmas.Bool.{cases_Bool, cases_eq}
 use Rattle.std.proofs.lemmas.List.Elements.{All-cons, All-tail, All-head, All-nil, All-weaker}
 use Rattle.std.proofs.lemmas.List.Sums.{sum_by-cons}
 use Rattle.std.proofs.lemmas.List.Sorted.{All-permutation, sum_by-IsPermutation, length_permutation}
-use Rattle.std.specs.List.{All, sum_by}
-use Rattle.std.specs.List.Sorted.{IsPermutation}
-use Rattle.s66_isa.specs.Lists.{tally}
+use Rattle.s66_isa.specs.{tally}
 use Rattle.s66_isa.proofs.Lists.{tally-set, tally-append, cases_le, get_or-past}
-use Rattle.s66_node.specs.declared.node.Node.{Node}
-use Rattle.s66_node.specs.declared.node.State.{State}
-use Rattle.s66_node.specs.declared.node.State.TheVariants as state
-use Rattle.s66_ledger.specs.declared.limits.TheConstants.{DEPTH_RANKS}
-use Rattle.s66_node.specs.Nodes.{is_stored_open}
-use Rattle.s66_ledger.specs.Nodes.{no_stored, stored_at, stores_open}
-use Rattle.s66_node.proofs.Nodes.{get_or-front, get_or-last}
-use Rattle.s66_ledger.specs.OpenNodes.{ranked, rank_of, IsRanked, AreOpenNodes}
 use Rattle.s66_model.proofs.LegalOrders.{at-most-one}
+use Rattle.s66_node.specs.{Node, State, is_stored_open}
+use Rattle.s66_node.specs.declared.node.State.TheVariants as state
+use Rattle.s66_node.proofs.Nodes.{get_or-front, get_or-last}
+use Rattle.s66_ledger.specs.{DEPTH_RANKS, no_stored, stored_at, stores_open, ranked, rank_of, IsRanked, AreOpenNodes}
 
 abbrev pub Entry : Type 0
 Entry = ℕ × ℕ

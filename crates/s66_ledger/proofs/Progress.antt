@@ -1,26 +1,15 @@
 -- Each round of a search has less to go. If it stops, no open node's floor is below the best time or the budget is spent.
 use Rattle.std.proofs.Common.{ℕ, suc, ◌+◌, ◌≤◌, ◌<◌, ◌≡◌, ◌⊎◌, true, cond, List, [], ◌∷◌, refl, sym, ap, arith, subst, ◌∙◌, inl, inr, Option, Some, None}
-use Rattle.s66_isa.specs.Lists.{tally, Among}
-use Rattle.s66_model.specs.declared.rule.Rule.{Rule}
-use Rattle.s66_model.specs.declared.rule.Rule.TheVariants.{NoneNamed, WrittenEarlier, ClampedStanding}
-use Rattle.s66_model.specs.Timing.{Problem, total_of}
-use Rattle.s66_model.specs.Leaves.{Whole, value, floor_value}
-use Rattle.s66_model.specs.Trees.{Tree, Alone, Parted, splits}
-use Rattle.s66_model.specs.Piece.{Terminal, Carries, Frontier, Passed}
-use Rattle.s66_model.specs.Expansion.{IsExpansion}
-use Rattle.s66_model.specs.LedgerRuns.{Ledger, Node, Claim, Back, Claimed, Returned, best_time, allowance, is_open, node_at}
-use Rattle.s66_model.specs.Coverage.{Covers}
+use Rattle.s66_isa.specs.{tally, Among}
+use Rattle.s66_model.specs.{Rule, NoneNamed, WrittenEarlier, ClampedStanding, Problem, total_of, Whole, value, floor_value, Tree, Alone, Parted, splits, Terminal, Carries, Frontier, Passed}
+use Rattle.s66_model.specs.{IsExpansion, Ledger, Node, Claim, Back, Claimed, Returned, best_time, allowance, is_open, node_at, Covers, TicketOf}
 use Rattle.s66_model.proofs.Floors.{floor-whole}
 use Rattle.s66_model.proofs.LedgerRuns.{run-falls}
-use Rattle.s66_time.specs.TimedOrder.{TimedOrder}
-use Rattle.s66_node.specs.Pieces.{PieceOf, tree_of, IsBestTimed}
-use Rattle.s66_model.specs.Tickets.{TicketOf}
-use Rattle.s66_ledger.specs.ClaimedNodes.{IsLeastOpen}
-use Rattle.s66_ledger.specs.Ledgers.{LedgerOf, IsEvent}
 use Rattle.s66_model.proofs.LedgerSteps.{root-stands}
+use Rattle.s66_time.specs.TimedOrder.{TimedOrder}
+use Rattle.s66_node.specs.{PieceOf, tree_of, IsBestTimed}
+use Rattle.s66_ledger.specs.{IsLeastOpen, LedgerOf, IsEvent, piece_splits, IsSearched, IsBetweenRounds, IsOffering, IsTaken, still_to_go}
 use Rattle.s66_ledger.proofs.Taken.{same-splits}
-use Rattle.s66_ledger.specs.PieceSplits.{piece_splits}
-use Rattle.s66_ledger.specs.Finishing.{IsSearched, IsBetweenRounds, IsOffering, IsTaken, still_to_go}
 use Rattle.s66_ledger.proofs.Events.{at-most-all}
 use Rattle.s66_ledger.proofs.Rounds.{taken-leads, claim-within, claim-back, graft-step}
 

@@ -1,38 +1,21 @@
 -- A move of the machine with its entry is an event, and the history leads on; what its accounts spend adds up.
-use Rattle.std.proofs.Common.{ℕ, ◌+◌, ◌≡◌, ◌≢◌, ◌≤◌, ◌<◌, ◌↔◌, ◌∙◌, Bool, true, false, true≢false, List, [], ◌∷◌, ◌++◌, Some, None, map, take, drop, length, get_or, length-append, refl, ap, sym, subst, arith}
+use Rattle.std.proofs.Common.{ℕ, ◌+◌, ◌≡◌, ◌≢◌, ◌≤◌, ◌<◌, ◌↔◌, ◌∙◌, Bool, true, false, true≢false, List, [], ◌∷◌, ◌++◌, Some, None, map, take, drop, length, get_or, length-append, refl, ap, sym}
+use Rattle.std.proofs.Common.{subst, arith, append-nil, length-drop, length-take, take-append-drop}
 use Rattle.std.proofs.Math.Seq.{take-length}
-use Rattle.std.proofs.lemmas.List.{append-nil, nil_from_length, take-append-le, drop-append-le, length-drop, length-take, take-append-drop}
-use Rattle.s66_isa.specs.Lists.{weigh, rising}
+use Rattle.std.proofs.lemmas.List.{nil_from_length, take-append-le, drop-append-le}
+use Rattle.s66_isa.specs.{weigh, rising}
 use Rattle.s66_isa.proofs.Lists.{weigh-append}
-use Rattle.s66_model.specs.declared.rule.Rule.{Rule}
-use Rattle.s66_model.specs.Timing.{Problem, total_of}
-use Rattle.s66_model.specs.Trees.{Tree, Vertex, flat, splits}
-use Rattle.s66_model.specs.Piece.{Terminal, Frontier}
-use Rattle.s66_model.specs.LedgerRuns.{Ledger, Event, Graft, Offer, Reply, Taken, Moves, Run, opening}
-use Rattle.s66_model.specs.Recorded.{IsOwn, IsOwnPiece, IsOfferOf, graft_event}
-use Rattle.s66_model.specs.Accounts.{Account, account_of}
+use Rattle.s66_model.specs.{Rule, Problem, total_of, Tree, Vertex, flat, splits, Terminal, Frontier, Ledger, Event, Graft, Offer, Reply, Taken, Moves, Run, opening, IsOwn, IsOwnPiece, IsOfferOf}
+use Rattle.s66_model.specs.{graft_event, Account, account_of, read_tree}
 use Rattle.s66_model.proofs.Histories.{run-next, history-spent}
-use Rattle.s66_model.specs.Preorder.{read_tree}
 use Rattle.s66_model.proofs.Forests.{read-flat}
-use Rattle.s66_node.specs.declared.node.Node.{Node}
-use Rattle.s66_node.specs.declared.node.State.{State}
-use Rattle.s66_node.specs.Nodes.{node_line}
-use Rattle.s66_node.specs.Pieces.{PieceOf, tree_of}
-use Rattle.s66_ledger.specs.declared.event_record.EventRecord.{EventRecord}
-use Rattle.s66_ledger.specs.declared.event_record.Refusal.{Refusal}
+use Rattle.s66_node.specs.{Node, State, node_line, PieceOf, tree_of}
+use Rattle.s66_ledger.specs.{EventRecord, Refusal, Offered, offered_reply, byte_count, line_count, entry_of, entries_of, refusal_reply, error_of, MachineOf, IsMove, IsGraftMove, IsRefusedMove}
+use Rattle.s66_ledger.specs.{taken_event, IsTakenMove, IsGraft, IsRefusedGraft, no_stored, stored_at, opened_state, IsTakenAs, LedgerOf, IsEvent, IsRecorded, events_of, account_summary, with_history}
 use Rattle.s66_ledger.specs.declared.event_record.Refusal.TheVariants as refusal
-use Rattle.s66_ledger.specs.declared.reply.Offered.{Offered}
 use Rattle.s66_ledger.specs.declared.reply.Offered.TheVariants as offered
-use Rattle.s66_ledger.specs.Replies.{offered_reply}
-use Rattle.s66_ledger.specs.HistoryEntries.{byte_count, line_count, entry_of, entries_of, refusal_reply, error_of}
-use Rattle.s66_ledger.specs.LedgerMachine.{MachineOf, IsMove}
-use Rattle.s66_ledger.specs.GraftMoves.{IsGraftMove, IsRefusedMove, taken_event, IsTakenMove}
-use Rattle.s66_ledger.specs.Grafts.{IsGraft, IsRefusedGraft}
-use Rattle.s66_ledger.specs.Nodes.{no_stored, stored_at}
-use Rattle.s66_ledger.specs.Grafting.{opened_state, IsTakenAs}
 use Rattle.s66_ledger.proofs.NodePrefixes.{get_or-any}
 use Rattle.s66_ledger.proofs.Taken.{same-splits}
-use Rattle.s66_ledger.specs.Ledgers.{LedgerOf, IsEvent, IsRecorded, events_of, account_summary, with_history}
 
 -- the next entry comes with its own bytes and lines
 entries-next : (b : Problem) (before : List EventRecord) (bytes : List ℕ) (lines : List (Vertex Terminal)) (entry : EventRecord) (own : List ℕ) (own_lines : List (Vertex Terminal)) → weigh byte_count before ≡ length bytes → weigh line_count before ≡ length lines → byte_count entry ≡ length own → line_count entry ≡ length own_lines → entries_of b (before ++ entry ∷ []) (bytes ++ own) (lines ++ own_lines) ≡ entries_of b before bytes lines ++ entry_of b entry own own_lines ∷ []

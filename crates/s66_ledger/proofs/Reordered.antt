@@ -1,24 +1,13 @@
 -- An answer with another order that takes no longer.
 use Rattle.std.proofs.Common.{ℕ, ◌≡◌, ◌≤◌, ◌<◌, ◌∙◌, List, [], ◌∷◌, ap, arith, inl, inr, refl, sym}
-use Rattle.s66_isa.specs.Lists.{least}
+use Rattle.s66_isa.specs.{least}
 use Rattle.s66_isa.proofs.Lists.{least-le}
-use Rattle.s66_model.specs.declared.rule.Rule.{Rule}
-use Rattle.s66_model.specs.Timing.{Problem, total_of}
-use Rattle.s66_model.specs.LegalOrder.{IsLegal}
-use Rattle.s66_model.specs.Leaves.{Whole, value}
-use Rattle.s66_model.specs.Trees.{Tree, tree_values}
-use Rattle.s66_model.specs.DominatedLeaves.{Ending, Bounding}
-use Rattle.s66_model.specs.Answer.{ending_values, source_time}
+use Rattle.s66_model.specs.{Rule, Problem, total_of, IsLegal, Whole, value, Tree, tree_values, Ending, Bounding, ending_values, source_time, live_floors, ended_answer, node_tree}
 use Rattle.s66_model.proofs.AnswerBound.{answer-bound}
 use Rattle.s66_model.proofs.Floors.{floor-stands}
 use Rattle.s66_model.proofs.TreesHold.{tree-weaken}
-use Rattle.s66_model.specs.Coverage.{live_floors}
-use Rattle.s66_model.specs.Ended.{ended_answer}
-use Rattle.s66_model.specs.NodeTree.{node_tree}
-use Rattle.s66_node.specs.declared.node.Node.{Node}
-use Rattle.s66_ledger.specs.Answers.{IsKeptAnswer, ended_of}
-use Rattle.s66_ledger.specs.LedgerMachine.{ledger_from}
-use Rattle.s66_ledger.specs.Nodes.{nodes_of}
+use Rattle.s66_node.specs.{Node}
+use Rattle.s66_ledger.specs.{IsKeptAnswer, ended_of, ledger_from, nodes_of}
 
 -- the least stays if the first number falls, but not below it
 least-stays : (old new : ℕ) (others : List ℕ) → new ≤ old → least (λ v. v) (old ∷ others) ≤ new → least (λ v. v) (new ∷ others) ≡ least (λ v. v) (old ∷ others)

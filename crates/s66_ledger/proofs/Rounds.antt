@@ -1,29 +1,18 @@
 -- What the events of a search's round do to the nodes that are out and to the allowances.
-use Rattle.std.proofs.Common.{ℕ, ◌+◌, ◌-◌, ◌≤◌, ◌<◌, ◌≡◌, ◌≢◌, Bool, true, false, cond, List, [], ◌∷◌, ◌++◌, length, get_or, set, refl, sym, ap, arith, subst, ◌∙◌, inl, inr, Some}
-use Rattle.std.specs.Prelude.{nat_le}
-use Rattle.std.proofs.lemmas.List.{length-set, get_or-set_same, set-set, set-get_or}
-use Rattle.s66_isa.specs.Lists.{tally, weigh, Among}
+use Rattle.std.proofs.Common.{ℕ, ◌+◌, ◌-◌, ◌≤◌, ◌<◌, ◌≡◌, ◌≢◌, Bool, true, false, cond, List, [], ◌∷◌, ◌++◌, length, get_or, set, refl, sym, ap, arith, subst, ◌∙◌, inl, inr, Some, nat_le, length-set}
+use Rattle.std.proofs.Common.{get_or-set_same, set-set}
+use Rattle.std.proofs.lemmas.List.{set-get_or}
+use Rattle.s66_isa.specs.{tally, weigh, Among}
 use Rattle.s66_isa.proofs.Lists.{tally-append, tally-set, weigh-set}
-use Rattle.s66_model.specs.declared.rule.Rule.{Rule}
-use Rattle.s66_model.specs.Timing.{Problem, total_of}
-use Rattle.s66_model.specs.Recorded.{IsOfferOf}
+use Rattle.s66_model.specs.{Rule, Problem, total_of, IsOfferOf, value, Tree, Alone, Parted, Siblings, NoMore, Unsplit, Split, splits, Terminal, Carries, Frontier, Passed, IsPiece, whole_orders}
+use Rattle.s66_model.specs.{Bounding, Ledger, Node, State, Open, Out, Cut, Closed, Grant, Claim, Back, Granted, Claimed, Taken, Returned, OverAllowance, no_node, node_at, with_state, is_out_state}
+use Rattle.s66_model.specs.{is_out, is_live_state, best_time, allowance, share_of, state_of, root_state, sibling_nodes, new_nodes, after_offer, after_graft, Offer, Graft, Moves, Event, Covers}
+use Rattle.s66_model.specs.{TicketOf}
 use Rattle.s66_time.specs.TimedOrder.{TimedOrder}
-use Rattle.s66_ledger.specs.declared.reply.Offered.{Offered}
+use Rattle.s66_node.specs.{PieceOf, tree_of}
+use Rattle.s66_ledger.specs.{Offered, offered_reply, LedgerOf, IsEvent, IsGraft, Leads, NoneOut, IsIdle, IsBetweenRounds, IsWithinRound, IsOffering, IsTaken, still_to_go}
 use Rattle.s66_ledger.specs.declared.reply.Offered.TheVariants as offered
-use Rattle.s66_ledger.specs.Replies.{offered_reply}
-use Rattle.s66_model.specs.Leaves.{value}
-use Rattle.s66_model.specs.Trees.{Tree, Alone, Parted, Siblings, NoMore, Unsplit, Split, splits}
-use Rattle.s66_model.specs.Piece.{Terminal, Carries, Frontier, Passed, IsPiece}
-use Rattle.s66_model.specs.Expansion.{whole_orders}
-use Rattle.s66_model.specs.DominatedLeaves.{Bounding}
-use Rattle.s66_model.specs.LedgerRuns.{Ledger, Node, State, Open, Out, Cut, Closed, Grant, Claim, Back, Granted, Claimed, Taken, Returned, OverAllowance, no_node, node_at, with_state, is_out_state, is_out, is_live_state, best_time, allowance, share_of, state_of, root_state, sibling_nodes, new_nodes, after_offer, after_graft, Offer, Graft, Moves, Event}
-use Rattle.s66_model.specs.Coverage.{Covers}
-use Rattle.s66_node.specs.Pieces.{PieceOf, tree_of}
-use Rattle.s66_model.specs.Tickets.{TicketOf}
-use Rattle.s66_ledger.specs.Ledgers.{LedgerOf, IsEvent}
-use Rattle.s66_ledger.specs.Grafts.{IsGraft}
 use Rattle.s66_ledger.proofs.Taken.{same-splits, same-wholes}
-use Rattle.s66_ledger.specs.Finishing.{Leads, NoneOut, IsIdle, IsBetweenRounds, IsWithinRound, IsOffering, IsTaken, still_to_go}
 use Rattle.s66_ledger.proofs.Leading.{leads-nowhere, event-leads, leads-on, leads-fall}
 use Rattle.s66_ledger.proofs.TimedWholes.{wholes-offered, wholes-moved, wholes-grafted}
 

@@ -1,14 +1,11 @@
 -- The nodes that are kept as the definition's nodes: one more, and one with another state.
-use Rattle.std.proofs.Common.{ℕ, zero, suc, ◌<◌, ◌≡◌, cond, List, [], ◌∷◌, ◌++◌, length, take, get_or, set, refl, sym, ap, arith, ◌∙◌, append_assoc}
-use Rattle.std.proofs.lemmas.List.{append-nil}
-use Rattle.s66_isa.specs.Lists.{tally}
-use Rattle.s66_model.specs.Timing.{Problem}
+use Rattle.std.proofs.Common.{ℕ, zero, suc, ◌<◌, ◌≡◌, cond, List, [], ◌∷◌, ◌++◌, length, take, get_or, set, refl, sym, ap, arith, ◌∙◌, append_assoc, append-nil}
+use Rattle.s66_isa.specs.{tally}
+use Rattle.s66_model.specs.{Problem}
 use Rattle.s66_model.specs.LedgerRuns as model
-use Rattle.s66_node.specs.declared.node.Node.{Node}
-use Rattle.s66_node.specs.declared.node.State.{State}
+use Rattle.s66_node.specs.{Node, State, is_stored_open}
 use Rattle.s66_node.specs.declared.node.State.TheVariants as state
-use Rattle.s66_node.specs.Nodes.{is_stored_open}
-use Rattle.s66_ledger.specs.Nodes.{prefixes, name_at, seen_state, seen_node, made_line, seen_at, nodes_of, made_lines, no_stored, stored_at, put_state, stores_open}
+use Rattle.s66_ledger.specs.{prefixes, name_at, seen_state, seen_node, made_line, seen_at, nodes_of, made_lines, no_stored, stored_at, put_state, stores_open}
 use Rattle.s66_ledger.proofs.NodePrefixes.{length-prefixes, prefixes-push, prefixes-set}
 
 -- ONE MORE

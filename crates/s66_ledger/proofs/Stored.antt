@@ -1,7 +1,6 @@
 -- The fields that a machine of `src/machine.rt` stores are a ledger of the definition.
-use Rattle.s66_line.specs.Blocks.{instrs_of}
-use Rattle.s66_ledger.specs.declared.machine.Machine.TheInside.{Inside}
-use Rattle.s66_ledger.specs.LedgerMachine.{Stored}
+use Rattle.s66_line.specs.{instrs_of}
+use Rattle.s66_ledger.specs.{Inside, Stored}
 
 abbrev pub stored_of : Inside → Stored
 stored_of m =

@@ -1,28 +1,17 @@
 -- A piece that is taken with some of its dominated prefixes left open, since their nodes weren't found: what it still covers and shows.
 use Rattle.std.proofs.Common.{ℕ, ◌≡◌, ◌≢◌, Bool, true, false, cond, eqb, List, [], ◌∷◌, ◌++◌, length, drop, get_or, refl, sym, ap, arith, inl, inr, ◌∙◌, subst, Option, None, length-append}
-use Rattle.s66_isa.specs.declared.instr.Instr.{Instr}
-use Rattle.s66_line.proofs.OperationLaw.{among-at}
-use Rattle.s66_model.specs.declared.rule.Rule.{Rule}
-use Rattle.s66_model.specs.declared.rule.Rule.TheVariants.{NoneNamed, WrittenEarlier, ClampedStanding}
-use Rattle.s66_model.specs.Timing.{Problem}
-use Rattle.s66_model.specs.LegalOrder.{IsIncomplete}
-use Rattle.s66_model.specs.DominatedLeaves.{DominatesByRule}
-use Rattle.s66_model.specs.Trees.{Tree, Alone, Parted, Siblings, NoMore, Unsplit, Split, Vertex, AtTerminal, AtSplit, SiblingsHold, TreeHolds, flat_siblings, flat, sibling_splits, splits, sibling_values}
+use Rattle.s66_isa.specs.{Instr}
+use Rattle.s66_model.specs.{Rule, NoneNamed, WrittenEarlier, ClampedStanding, Problem, IsIncomplete, DominatesByRule, Tree, Alone, Parted, Siblings, NoMore, Unsplit, Split, Vertex, AtTerminal}
+use Rattle.s66_model.specs.{AtSplit, SiblingsHold, TreeHolds, flat_siblings, flat, sibling_splits, splits, sibling_values, terminal_at, sibling_at, is_node, Terminal, Carries, Frontier, Passed}
+use Rattle.s66_model.specs.{IsNamedIn, TerminalHolds, IsPiece, SiblingsMatch, TreeMatches, whole_at, whole_orders, TerminalOpens, SiblingsOpen, TreeOpens, sibling_nodes, root_state, new_nodes}
+use Rattle.s66_model.specs.{may_name, TerminalIsNamed, AreNamed}
 use Rattle.s66_model.specs.NodeNames as names
-use Rattle.s66_model.specs.NodeNames.{terminal_at, sibling_at, is_node}
-use Rattle.s66_model.specs.Piece.{Terminal, Carries, Frontier, Passed, IsNamedIn, TerminalHolds, IsPiece}
-use Rattle.s66_model.specs.Preorder.{SiblingsMatch, TreeMatches}
-use Rattle.s66_model.specs.Expansion.{whole_at, whole_orders}
-use Rattle.s66_model.specs.Recorded.{TerminalOpens, SiblingsOpen, TreeOpens}
 use Rattle.s66_model.specs.LedgerRuns as model
-use Rattle.s66_model.specs.LedgerRuns.{sibling_nodes, root_state, new_nodes, may_name, TerminalIsNamed, AreNamed}
 use Rattle.s66_model.proofs.Forests.{tree-match}
-use Rattle.s66_node.specs.Growing.{sibling_prefixes, tree_prefixes}
-use Rattle.s66_node.specs.declared.node.Node.{Node}
-use Rattle.s66_node.specs.declared.node.State.{State}
+use Rattle.s66_line.proofs.OperationLaw.{among-at}
+use Rattle.s66_node.specs.{sibling_prefixes, tree_prefixes, Node, State}
 use Rattle.s66_node.specs.declared.node.State.TheVariants as state
-use Rattle.s66_ledger.specs.Nodes.{prefixes, name_at, stored_at, seen_state, nodes_of}
-use Rattle.s66_ledger.specs.Grafting.{IsNamed}
+use Rattle.s66_ledger.specs.{prefixes, name_at, stored_at, seen_state, nodes_of, IsNamed}
 use Rattle.s66_ledger.proofs.SeenNodes.{at-nodes, length-nodes}
 
 -- LINES

@@ -1,16 +1,12 @@
 -- A ledger takes back allowances and nodes, one after the other, until none is out.
-use Rattle.std.proofs.Common.{ℕ, zero, suc, ◌+◌, ◌-◌, ◌≤◌, ◌<◌, ◌≡◌, ◌≢◌, List, [], ◌∷◌, length, take, set, refl, sym, ap, arith, inl, inr, subst, ◌∙◌}
+use Rattle.std.proofs.Common.{ℕ, zero, suc, ◌+◌, ◌-◌, ◌≤◌, ◌<◌, ◌≡◌, ◌≢◌, List, [], ◌∷◌, length, take, set, refl, sym, ap, arith, inl, inr, subst, ◌∙◌, length-set, get_or-set_other, get_or-set_same}
+use Rattle.std.proofs.Common.{take_all}
 use Rattle.std.proofs.lemmas.Bool.{cases_eq}
-use Rattle.std.proofs.lemmas.List.{length-set, get_or-set_other, get_or-set_same, take_all}
-use Rattle.s66_isa.specs.Lists.{weigh}
-use Rattle.s66_model.specs.LedgerRuns.{Ledger, Node, State, Open, Out, no_node, node_at, with_state, Back, Retire, Returned, Retired, IsOut}
-use Rattle.s66_ledger.specs.Finishing.{NoneOut, NoneOutBelow, IsIdle, IsReopening}
-use Rattle.s66_ledger.specs.LedgerMachine.{ledger_from}
-use Rattle.s66_ledger.specs.Ledgers.{LedgerOf, IsEvent}
-use Rattle.s66_ledger.specs.Nodes.{nodes_of}
-use Rattle.s66_ledger.specs.OpenNodes as OpenNodes
+use Rattle.s66_isa.specs.{weigh}
+use Rattle.s66_model.specs.{Ledger, Node, State, Open, Out, no_node, node_at, with_state, Back, Retire, Returned, Retired, IsOut, Problem}
 use Rattle.s66_node.specs.declared.node.Node as kept
-use Rattle.s66_model.specs.Timing.{Problem}
+use Rattle.s66_ledger.specs.{NoneOut, NoneOutBelow, IsIdle, IsReopening, ledger_from, LedgerOf, IsEvent, nodes_of}
+use Rattle.s66_ledger.specs.OpenNodes as OpenNodes
 use Rattle.s66_ledger.proofs.Events.{not-out}
 use Rattle.s66_ledger.proofs.Leading.{each-among, leads-nowhere, event-leads}
 

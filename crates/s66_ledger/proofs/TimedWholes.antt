@@ -1,23 +1,17 @@
 -- No event of a search leaves a whole order below the best time open or out.
 use Rattle.std.proofs.Common.{ℕ, ◌≤◌, ◌<◌, ◌≡◌, true, true≢false, List, [], ◌∷◌, ◌++◌, length, Option, None, Some, refl, sym, ap, arith, inl, inr, subst, ◌∙◌}
-use Rattle.s66_isa.specs.Lists.{Among}
+use Rattle.s66_isa.specs.{Among}
 use Rattle.s66_isa.proofs.Lists.{among-front, among-rest}
-use Rattle.s66_line.proofs.OperationLaw.{among-at}
-use Rattle.s66_model.specs.declared.rule.Rule.{Rule}
-use Rattle.s66_model.specs.Timing.{Problem, total_of}
-use Rattle.s66_model.specs.LegalOrder.{IsComplete}
-use Rattle.s66_model.specs.Leaves.{value, floor_value}
-use Rattle.s66_model.specs.Trees.{Tree, Alone, Parted, Siblings, NoMore, Unsplit, Split, SiblingsHold, sibling_values}
-use Rattle.s66_model.specs.Piece.{Terminal, Carries, Frontier, Passed, TerminalHolds, IsPiece}
-use Rattle.s66_model.specs.Expansion.{whole_at, whole_orders}
-use Rattle.s66_model.specs.LedgerRuns.{Ledger, Node, State, no_node, node_at, is_live_state, is_live, with_state, best_time, IsOut, root_state, sibling_nodes, new_nodes, after_graft}
+use Rattle.s66_model.specs.{Rule, Problem, total_of, IsComplete, value, floor_value, Tree, Alone, Parted, Siblings, NoMore, Unsplit, Split, SiblingsHold, sibling_values, Terminal, Carries, Frontier}
+use Rattle.s66_model.specs.{Passed, TerminalHolds, IsPiece, whole_at, whole_orders, Ledger, Node, State, no_node, node_at, is_live_state, is_live, with_state, best_time, IsOut, root_state}
+use Rattle.s66_model.specs.{sibling_nodes, new_nodes, after_graft}
 use Rattle.s66_model.proofs.Floors.{floor-whole}
+use Rattle.s66_line.proofs.OperationLaw.{among-at}
 use Rattle.s66_time.specs.TimedOrder.{TimedOrder}
-use Rattle.s66_node.specs.Pieces.{IsBestTimed}
+use Rattle.s66_node.specs.{IsBestTimed}
 use Rattle.s66_node.proofs.Leasts.{among-either}
-use Rattle.s66_ledger.specs.Ledgers.{LedgerOf}
+use Rattle.s66_ledger.specs.{LedgerOf, WholesAreTimed, IsOffering}
 use Rattle.s66_ledger.proofs.Taken.{dominated-part}
-use Rattle.s66_ledger.specs.Finishing.{WholesAreTimed, IsOffering}
 use Rattle.s66_ledger.proofs.Leading.{each-set, leads-fall}
 
 -- the node isn't a whole order that is open or out and has a time below this

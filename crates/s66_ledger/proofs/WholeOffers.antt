@@ -1,23 +1,15 @@
 -- A ledger's whole orders are offered, one after the other, until none that is below the best is open or out.
 use Rattle.std.proofs.Common.{ℕ, ◌+◌, ◌≤◌, ◌<◌, ◌≡◌, true, List, [], length, get_or, refl, sym, ap, arith, inl, inr, subst, ◌∙◌}
 use Rattle.std.proofs.lemmas.Bool.{cases_eq}
-use Rattle.s66_isa.specs.declared.instr.Instr.{Instr}
+use Rattle.s66_isa.specs.{Instr}
 use Rattle.s66_isa.proofs.Lists.{cases_le}
-use Rattle.s66_model.specs.Timing.{Problem, total_of}
-use Rattle.s66_model.specs.LegalOrder.{IsLegal, IsBeginning, IsComplete}
-use Rattle.s66_model.specs.Leaves.{floor_value, value}
+use Rattle.s66_model.specs.{Problem, total_of, IsLegal, IsBeginning, IsComplete, floor_value, value, Ledger, is_live, best_time}
 use Rattle.s66_model.specs.LedgerRuns as model
-use Rattle.s66_model.specs.LedgerRuns.{Ledger, is_live, best_time}
 use Rattle.s66_model.proofs.Floors.{floor-whole}
 use Rattle.s66_model.proofs.LegalOrders.{order-legal}
-use Rattle.s66_ledger.specs.Finishing.{WholesAreTimed, IsTimedAt, IsOffering, IsTiming}
-use Rattle.s66_ledger.specs.Ledgers.{LedgerOf}
-use Rattle.s66_ledger.specs.LedgerMachine.{MachineOf, Stored, IsKeptMachine, machine_of, ledger_from}
-use Rattle.s66_node.specs.Nodes.{has_floor, is_stored_live}
-use Rattle.s66_ledger.specs.Nodes.{prefixes, name_at, stored_at, nodes_of, seen_state}
-use Rattle.s66_node.specs.declared.node.Node.{Node}
-use Rattle.s66_node.specs.declared.node.State.{State}
+use Rattle.s66_node.specs.{has_floor, is_stored_live, Node, State}
 use Rattle.s66_node.specs.declared.node.State.TheVariants as state
+use Rattle.s66_ledger.specs.{WholesAreTimed, IsTimedAt, IsOffering, IsTiming, LedgerOf, MachineOf, Stored, IsKeptMachine, machine_of, ledger_from, prefixes, name_at, stored_at, nodes_of, seen_state}
 use Rattle.s66_ledger.proofs.SeenNodes.{at-nodes, length-nodes}
 use Rattle.s66_ledger.proofs.Leading.{each-among, leads-fall}
 

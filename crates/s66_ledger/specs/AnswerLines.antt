@@ -1,16 +1,9 @@
 -- Used by contracts within the crate alone: the lines of an answer's tree that are still to come, by the prefix of the next one and by its node.
 use Rattle.std.specs.Prelude.{ℕ, ◌≡◌, ◌<◌, Bool, List, [], length, get_or}
-use Rattle.s66_isa.specs.Lists.{Among}
-use Rattle.s66_model.specs.Timing.{Problem}
-use Rattle.s66_model.specs.LegalOrder.{IsBeginning}
-use Rattle.s66_model.specs.DominatedLeaves.{Ending}
-use Rattle.s66_model.specs.Trees.{Vertex}
+use Rattle.s66_isa.specs.{Among}
+use Rattle.s66_model.specs.{Problem, IsBeginning, Ending, Vertex, coming, IsTable, is_split_at, ending_at, lines_of}
 use Rattle.s66_model.specs.LedgerRuns as model
-use Rattle.s66_model.specs.Later.{coming}
-use Rattle.s66_model.specs.NodeTable.{IsTable}
-use Rattle.s66_model.specs.NodeTree.{is_split_at, ending_at}
-use Rattle.s66_model.specs.TreeLines.{lines_of}
-use Rattle.s66_node.specs.declared.node.Node.{Node}
+use Rattle.s66_node.specs.{Node}
 use Rattle.s66_ledger.specs.LedgerMachine.{ledger_from}
 use Rattle.s66_ledger.specs.Nodes.{nodes_of, prefixes}
 

@@ -1,14 +1,8 @@
 -- Used by contracts: what they see of an answer: of which problem it is one, for which budget, and how its ledger ended. Used by an invariant: what is true of every answer.
 use Rattle.std.specs.Prelude.{ℕ, ◌≡◌, ◌≤◌, ◌<◌, ◌^◌, List, [], length}
-use Rattle.s66_isa.specs.Lists.{Among}
-use Rattle.s66_model.specs.declared.rule.Rule.{Rule}
-use Rattle.s66_model.specs.Timing.{Problem}
-use Rattle.s66_model.specs.Answer.{Answer, IsAnswer, source_time}
-use Rattle.s66_model.specs.LegalOrder.{IsBeginning}
-use Rattle.s66_model.specs.LedgerRuns.{Ledger, Node}
-use Rattle.s66_model.specs.NodeTable.{IsTable}
-use Rattle.s66_model.specs.Ended.{ended_answer}
-use Rattle.s66_model.specs.declared.limits.TheConstants.{BUDGET_LIMIT}
+use Rattle.s66_isa.specs.{Among}
+use Rattle.s66_model.specs.{Rule, Problem, IsAnswer, source_time, IsBeginning, Ledger, Node, IsTable, ended_answer, BUDGET_LIMIT}
+use Rattle.s66_model.specs.Answer.{Answer}
 use Rattle.s66_node.specs.declared.node.Node as declared
 use Rattle.s66_ledger.specs.LedgerMachine.{ledger_from}
 use Rattle.s66_ledger.specs.Nodes.{HaveFloors}

@@ -1,9 +1,6 @@
 -- Used by contracts: what a claim's ticket is, and which open node is claimed.
 use Rattle.std.specs.Prelude.{ℕ, ◌≡◌, ◌≤◌, true, Option, Some, None}
-use Rattle.s66_model.specs.Timing.{Problem}
-use Rattle.s66_model.specs.Leaves.{floor_value}
-use Rattle.s66_model.specs.LedgerRuns.{Ledger, is_open, node_at}
-use Rattle.s66_model.specs.Tickets.{TicketOf}
+use Rattle.s66_model.specs.{Problem, floor_value, Ledger, is_open, node_at, TicketOf}
 
 abbrev pub claimed_node : Option TicketOf → Option ℕ
 claimed_node None = None

@@ -1,15 +1,9 @@
 -- Used by contracts: the events by which a ledger goes on, and those by which it is brought to its end.
 use Rattle.std.specs.Prelude.{ℕ, ◌+◌, ◌-◌, ◌≡◌, ◌<◌, ◌≤◌, ◌⊎◌, ◌≢◌, Bool, true, List, length, Some}
-use Rattle.s66_isa.specs.Lists.{Among, weigh, tally}
-use Rattle.s66_model.specs.Timing.{Problem}
-use Rattle.s66_model.specs.LegalOrder.{IsComplete}
-use Rattle.s66_model.specs.Leaves.{floor_value}
-use Rattle.s66_model.specs.Trees.{Tree, splits}
-use Rattle.s66_model.specs.Piece.{Terminal}
-use Rattle.s66_model.specs.Recorded.{TreeOpens}
-use Rattle.s66_node.specs.Pieces.{PieceOf, tree_of, IsExpandedPiece}
-use Rattle.s66_model.specs.LedgerRuns.{Ledger, Node, Out, Event, Reply, Run, Graft, Taken, IsOut, is_open, is_out, is_live, best_time, allowance, node_at, after_offer}
-use Rattle.s66_model.specs.Tickets.{TicketOf}
+use Rattle.s66_isa.specs.{Among, weigh, tally}
+use Rattle.s66_model.specs.{Problem, IsComplete, floor_value, Tree, splits, Terminal, TreeOpens, Ledger, Node, Out, Event, Reply, Run, Graft, Taken, IsOut, is_open, is_out, is_live, best_time}
+use Rattle.s66_model.specs.{allowance, node_at, after_offer, TicketOf}
+use Rattle.s66_node.specs.{PieceOf, tree_of, IsExpandedPiece}
 use Rattle.s66_ledger.specs.Ledgers.{LedgerOf, IsEvent}
 use Rattle.s66_ledger.specs.PieceSplits.{piece_splits}
 

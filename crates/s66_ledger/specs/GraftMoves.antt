@@ -1,11 +1,8 @@
 -- Used by contracts within the crate alone: what a graft at a node is in the machine, also if it is refused.
 use Rattle.std.specs.Prelude.{ℕ, ◌≡◌, ◌++◌, true, drop, Some}
-use Rattle.s66_model.specs.Trees.{Tree, flat, splits}
-use Rattle.s66_model.specs.Piece.{Terminal}
+use Rattle.s66_model.specs.{Tree, flat, splits, Terminal, Event, Reply, IsGraftOf}
 use Rattle.s66_model.specs.LedgerRuns as model
-use Rattle.s66_model.specs.LedgerRuns.{Event, Reply}
-use Rattle.s66_model.specs.Recorded.{IsGraftOf}
-use Rattle.s66_node.specs.Pieces.{PieceOf, tree_of}
+use Rattle.s66_node.specs.{PieceOf, tree_of}
 use Rattle.s66_ledger.specs.declared.reply.GraftError.{GraftError}
 use Rattle.s66_ledger.specs.declared.reply.GraftError.TheVariants as refused
 use Rattle.s66_ledger.specs.Grafting.{IsTakenAs}

@@ -1,16 +1,9 @@
 -- Used by contracts within the crate alone: the nodes of a piece in a ledger, some of them closed as dominated by nodes that come before them.
 use Rattle.std.specs.Prelude.{ℕ, zero, suc, ◌+◌, ◌-◌, ◌^◌, ◌≡◌, ◌≢◌, ◌<◌, ◌⊎◌, if◌then◌else◌, nat_le, min, List, [], ◌∷◌, ◌++◌, length, get_or, take, drop}
-use Rattle.s66_model.specs.Trees.{Tree, Vertex, flat}
-use Rattle.s66_model.specs.Piece.{Terminal, IsPiece}
-use Rattle.s66_model.specs.Preorder.{TreeMatches}
-use Rattle.s66_model.specs.Recorded.{TreeOpens}
+use Rattle.s66_model.specs.{Tree, Vertex, flat, Terminal, IsPiece, TreeMatches, TreeOpens, root_state, new_nodes, AreNamed}
 use Rattle.s66_model.specs.LedgerRuns as model
-use Rattle.s66_model.specs.LedgerRuns.{root_state, new_nodes, AreNamed}
-use Rattle.s66_node.specs.declared.node.Node.{Node}
-use Rattle.s66_node.specs.declared.node.State.{State}
+use Rattle.s66_node.specs.{Node, State, Named, named_at, node_line, PieceOf, tree_of}
 use Rattle.s66_node.specs.declared.node.State.TheVariants as state
-use Rattle.s66_node.specs.Nodes.{Named, named_at, node_line}
-use Rattle.s66_node.specs.Pieces.{PieceOf, tree_of}
 use Rattle.s66_ledger.specs.Nodes.{stored_at, prefixes, nodes_of, made_lines, put_state, HaveFloors}
 
 -- A NODE

@@ -1,9 +1,8 @@
 -- Used by contracts: what a graft is in the machine, also if it is refused.
 use Rattle.std.specs.Prelude.{ℕ, ◌≡◌}
 use Rattle.s66_model.specs.LedgerRuns as model
-use Rattle.s66_model.specs.LedgerRuns.{Event, Reply}
-use Rattle.s66_model.specs.Recorded.{IsGraftOf}
-use Rattle.s66_node.specs.Pieces.{PieceOf, tree_of}
+use Rattle.s66_model.specs.{Event, Reply, IsGraftOf}
+use Rattle.s66_node.specs.{PieceOf, tree_of}
 use Rattle.s66_ledger.specs.declared.reply.GraftError.{GraftError}
 use Rattle.s66_ledger.specs.declared.reply.GraftError.TheVariants as refused
 use Rattle.s66_ledger.specs.Ledgers.{LedgerOf, IsEvent}

@@ -1,12 +1,8 @@
 -- Used by contracts: which event of the machine an entry of a ledger's history is, and with which reply.
 use Rattle.std.specs.Prelude.{ℕ, true, Some, None, if◌then◌else◌, List, [], ◌∷◌, take, drop}
-use Rattle.s66_model.specs.Timing.{Problem}
-use Rattle.s66_model.specs.Trees.{Vertex}
-use Rattle.s66_model.specs.Preorder.{read_tree}
-use Rattle.s66_model.specs.Piece.{Terminal, Frontier}
+use Rattle.s66_model.specs.{Problem, Vertex, read_tree, Terminal, Frontier, Event, Reply, Granted, Claimed, Returned, NotOut, Retired, Taken}
 use Rattle.s66_model.specs.LedgerRuns as model
-use Rattle.s66_model.specs.LedgerRuns.{Event, Reply, Granted, Claimed, Returned, NotOut, Retired, Taken}
-use Rattle.s66_node.specs.Nodes.{node_line}
+use Rattle.s66_node.specs.{node_line}
 use Rattle.s66_ledger.specs.declared.event_record.EventRecord.{EventRecord}
 use Rattle.s66_ledger.specs.declared.event_record.EventRecord.TheVariants as entry
 use Rattle.s66_ledger.specs.declared.event_record.Refusal.{Refusal}

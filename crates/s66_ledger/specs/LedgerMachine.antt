@@ -1,16 +1,9 @@
 -- Used by contracts: what they see of a ledger's machine, and what one move of it is. Used by an invariant: what is true of every machine that is kept.
 use Rattle.std.specs.Prelude.{ℕ, ◌+◌, ◌*◌, ◌≡◌, ◌≤◌, List, length}
-use Rattle.s66_isa.specs.declared.limits.TheConstants.{BLOCK_LIMIT}
-use Rattle.s66_model.specs.declared.rule.Rule.{Rule}
-use Rattle.s66_model.specs.Timing.{Problem}
-use Rattle.s66_model.specs.Trees.{Vertex}
-use Rattle.s66_model.specs.Piece.{Terminal}
-use Rattle.s66_model.specs.LedgerRuns.{Ledger, Event, Reply, Step}
-use Rattle.s66_model.specs.Reached.{IsReached}
-use Rattle.s66_model.specs.Answer.{source_time}
+use Rattle.s66_isa.specs.{BLOCK_LIMIT}
+use Rattle.s66_model.specs.{Rule, Problem, Vertex, Terminal, Ledger, Event, Reply, Step, IsReached, source_time, BUDGET_LIMIT}
 use Rattle.s66_time.specs.TimedOrder.{TimedOrder}
 use Rattle.s66_node.specs.declared.node.Node as code
-use Rattle.s66_model.specs.declared.limits.TheConstants.{BUDGET_LIMIT}
 use Rattle.s66_ledger.specs.Nodes.{nodes_of, made_lines, HaveFloors}
 
 -- a ledger without its history, for a budget and this many workers

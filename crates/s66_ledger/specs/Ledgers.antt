@@ -1,12 +1,7 @@
 -- Used by contracts: what they see of a ledger with its history, and what one call of it is. Used by an invariant: what is true of every ledger.
 use Rattle.std.specs.Prelude.{ℕ, ◌≡◌, List, [], ◌∷◌, ◌++◌, ◌+◌, length, drop}
-use Rattle.s66_isa.specs.Lists.{weigh}
-use Rattle.s66_model.specs.declared.rule.Rule.{Rule}
-use Rattle.s66_model.specs.Timing.{Problem}
-use Rattle.s66_model.specs.Trees.{Vertex}
-use Rattle.s66_model.specs.Piece.{Terminal}
-use Rattle.s66_model.specs.LedgerRuns.{Ledger, Event, Reply, Step, Run, opening}
-use Rattle.s66_model.specs.Accounts.{Summary, summary_of}
+use Rattle.s66_isa.specs.{weigh}
+use Rattle.s66_model.specs.{Rule, Problem, Vertex, Terminal, Ledger, Event, Reply, Step, Run, opening, Summary, summary_of}
 use Rattle.s66_ledger.specs.declared.event_record.EventRecord.{EventRecord}
 use Rattle.s66_ledger.specs.HistoryEntries.{byte_count, line_count, entries_of}
 use Rattle.s66_ledger.specs.LedgerMachine.{MachineOf}

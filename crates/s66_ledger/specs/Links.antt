@@ -1,6 +1,6 @@
 -- Used by contracts: from a node to the last made of its children, and from each child to the one made before it.
 use Rattle.std.specs.Prelude.{ℕ, zero, suc, ◌≡◌, ◌<◌, ◌==◌, if◌then◌else◌, List, get_or, length, nat_lt}
-use Rattle.s66_node.specs.declared.node.Node.{Node}
+use Rattle.s66_node.specs.{Node}
 use Rattle.s66_ledger.specs.Nodes.{stored_at}
 
 -- a parent comes before its children; else the root is taken for it

@@ -1,8 +1,7 @@
 -- Used by contracts within the crate alone: the floors of the nodes that are open or out, how many are out, and how deep they are.
 use Rattle.std.specs.Prelude.{ℕ, ◌≡◌, ◌≤◌, true, if◌then◌else◌, List, [], ◌∷◌, ◌++◌}
-use Rattle.s66_isa.specs.Lists.{tally}
-use Rattle.s66_node.specs.declared.node.Node.{Node}
-use Rattle.s66_node.specs.Nodes.{is_stored_live}
+use Rattle.s66_isa.specs.{tally}
+use Rattle.s66_node.specs.{Node, is_stored_live}
 use Rattle.s66_ledger.specs.Nodes.{stored_at, stores_out}
 
 abbrev pub live_values : List Node → List ℕ

@@ -1,16 +1,10 @@
 -- Used by contracts: the nodes that a ledger stores, each by its parent and its last number, as the definition's nodes with whole
 -- prefixes, and as the lines of the pieces that made them.
 use Rattle.std.specs.Prelude.{ℕ, ◌≡◌, ◌<◌, min, Bool, true, false, List, [], ◌∷◌, ◌++◌, length, get_or, set, take}
-use Rattle.s66_model.specs.Timing.{Problem}
-use Rattle.s66_model.specs.Leaves.{floor, floor_value}
-use Rattle.s66_model.specs.Trees.{Vertex}
-use Rattle.s66_model.specs.DominatedLeaves.{Bounding, Dominated}
-use Rattle.s66_model.specs.Piece.{Terminal}
+use Rattle.s66_model.specs.{Problem, floor, floor_value, Vertex, Bounding, Dominated, Terminal}
 use Rattle.s66_model.specs.LedgerRuns as model
-use Rattle.s66_node.specs.declared.node.Node.{Node}
-use Rattle.s66_node.specs.declared.node.State.{State}
+use Rattle.s66_node.specs.{Node, State, is_stored_open, has_floor, prefixes_over, node_line}
 use Rattle.s66_node.specs.declared.node.State.TheVariants as state
-use Rattle.s66_node.specs.Nodes.{is_stored_open, has_floor, prefixes_over, node_line}
 
 -- past the last one is a node that is split
 abbrev pub no_stored : Node

@@ -1,10 +1,9 @@
 -- Used by contracts within the crate alone: the open nodes in a heap, each with its rank: the least floor first, of equal ones the deepest, of these the newest.
-use Rattle.std.specs.Prelude.{ℕ, ◌+◌, ◌-◌, ◌*◌, ◌≡◌, ◌<◌, ◌==◌, min, length, if◌then◌else◌, List}
-use Rattle.std.specs.List.{All}
+use Rattle.std.specs.Prelude.{ℕ, ◌+◌, ◌-◌, ◌*◌, ◌≡◌, ◌<◌, ◌==◌, min, length, if◌then◌else◌, List, All}
 use Rattle.std.specs.Ordering.{nat_cmp, ordering_then}
 use Rattle.std.specs.declared.cmp.Ordering.{Ordering}
-use Rattle.s66_isa.specs.Lists.{tally}
-use Rattle.s66_node.specs.declared.node.Node.{Node}
+use Rattle.s66_isa.specs.{tally}
+use Rattle.s66_node.specs.{Node}
 use Rattle.s66_node.specs.declared.node.State.TheVariants as state
 use Rattle.s66_ledger.specs.declared.limits.TheConstants.{RANKED_LIMIT, DEPTH_RANKS}
 use Rattle.s66_ledger.specs.Nodes.{stored_at, stores_open}

@@ -1,7 +1,6 @@
 -- Used by contracts: how many splits a piece may have.
 use Rattle.std.specs.Prelude.{ℕ, min}
-use Rattle.s66_model.specs.declared.rule.Rule.{Rule}
-use Rattle.s66_model.specs.declared.rule.Rule.TheVariants.{NoneNamed, WrittenEarlier, ClampedStanding}
+use Rattle.s66_model.specs.{Rule, NoneNamed, WrittenEarlier, ClampedStanding}
 use Rattle.s66_ledger.specs.declared.limits.TheConstants.{DOMINATED_PIECE_LIMIT}
 
 -- all that may be spent, or few if any node of the ledger may be named, so that the nodes that it makes are soon known

@@ -35,13 +35,9 @@ impl Model for Answer {
 
 impl Answer {
     ghost use Rattle.std.specs.Prelude.{◌≡◌, ◌≤◌, ◌<◌, ◌↔◌, IsTrue, IfOk, length};
-    ghost use Rattle.s66_line.specs.Blocks.{instrs_of};
-    ghost use Rattle.s66_model.specs.Timing.{total_of};
-    ghost use Rattle.s66_model.specs.Trees.{flat};
-    ghost use Rattle.s66_model.specs.Answer.{IsAnswer, IsBestAnswer, source_time};
-    ghost use Rattle.s66_model.specs.BestAndBound.{IsBound};
-    ghost use Rattle.s66_ledger.specs.Answers.{answer_of};
-    ghost use Rattle.s66_model.specs.declared.limits.TheConstants.{BUDGET_LIMIT};
+    ghost use Rattle.s66_line.specs.{instrs_of};
+    ghost use Rattle.s66_model.specs.{total_of, flat, IsAnswer, IsBestAnswer, source_time, IsBound, BUDGET_LIMIT};
+    ghost use Rattle.s66_ledger.specs.{answer_of};
 
     /// The order.
     pub fn order(&self) -> &Order

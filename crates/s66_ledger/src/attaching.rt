@@ -3,11 +3,9 @@
 ghost use Rattle.std.specs.Prelude.{ℕ, ◌+◌, ◌≡◌, ◌<◌, ◌^◌, ◌↔◌, IsTrue, length, map, IfOk, OnOk, OnErr};
 ghost use Rattle.std.specs.BinaryHeap.{IsHeap, heap_items};
 ghost use Rattle.s66_node.specs.declared.node.State.TheVariants as state;
-ghost use Rattle.s66_node.specs.Nodes.{named};
-ghost use Rattle.s66_ledger.specs.LiveNodes.{AreCounted};
-ghost use Rattle.s66_ledger.specs.Nodes.{put_state};
-ghost use Rattle.s66_ledger.specs.OpenNodes.{AreOpenNodes, compare_ranked};
-ghost use Rattle.s66_ledger.specs.Grafting.{placed, settled_state, opened_state, IsNamed, Grafts, IsGrafting, HaveNames};
+ghost use Rattle.s66_node.specs.{named};
+ghost use Rattle.s66_ledger.specs.{AreCounted, put_state, AreOpenNodes, compare_ranked, placed, settled_state, opened_state, IsNamed, IsGrafting, HaveNames};
+ghost use Rattle.s66_ledger.specs.Grafting.{Grafts};
 
 use crate::path;
 use crate::rank::rank_of;

@@ -1,7 +1,7 @@
 //! One entry of a ledger's history: an event with its reply.
 
 ghost use Rattle.std.specs.Prelude.{◌≡◌, IfSome, IfNone};
-ghost use Rattle.s66_ledger.specs.HistoryEntries.{error_of};
+ghost use Rattle.s66_ledger.specs.{error_of};
 ghost use Rattle.s66_ledger.specs.declared.reply.GraftError.TheVariants as error;
 
 use crate::reply::{GraftError, Offered};

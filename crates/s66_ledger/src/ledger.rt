@@ -2,7 +2,7 @@
 //! graft, offer, back and retire.
 
 ghost use Rattle.std.specs.Prelude.{◌≡◌};
-ghost use Rattle.s66_ledger.specs.ClaimedNodes.{claimed_node};
+ghost use Rattle.s66_ledger.specs.{claimed_node};
 
 use crate::answer::Answer;
 use crate::attaching::opened_state;
@@ -43,20 +43,11 @@ impl<'a> Summed for Ledger<'a> {
 
 impl<'a> Ledger<'a> {
     ghost use Rattle.std.specs.Prelude.{[], ◌≡◌, ◌≤◌, length, IfOk, IfErr, OnOk, OnErr};
-    ghost use Rattle.s66_line.specs.Blocks.{instrs_of};
-    ghost use Rattle.s66_isa.specs.Lists.{weigh};
-    ghost use Rattle.s66_model.specs.Accounts.{Account};
-    ghost use Rattle.s66_model.specs.LedgerRuns.{Event, Run, opening, best_time, Grant, Granted, Claim, Claimed, Back, Returned, NotOut, Retire, Retired, Taken};
-    ghost use Rattle.s66_model.specs.Recorded.{IsOfferOf, IsOwnPiece};
-    ghost use Rattle.s66_model.specs.Coverage.{Covers, bound_of, IsFinished};
-    ghost use Rattle.s66_model.specs.BestAndBound.{IsBound};
-    ghost use Rattle.s66_model.specs.NodeTable.{IsTable};
-    ghost use Rattle.s66_ledger.specs.Ledgers.{IsEvent, IsRecorded, events_of, account_summary};
-    ghost use Rattle.s66_ledger.specs.Answers.{answer_of};
-    ghost use Rattle.s66_ledger.specs.Grafts.{IsGraft, IsRefusedGraft};
-    ghost use Rattle.s66_ledger.specs.ClaimedNodes.{claimed_node, IsTicketOf, IsLeastOpen};
-    ghost use Rattle.s66_ledger.specs.Replies.{offered_reply};
-    ghost use Rattle.s66_model.specs.declared.limits.TheConstants.{BUDGET_LIMIT};
+    ghost use Rattle.s66_line.specs.{instrs_of};
+    ghost use Rattle.s66_isa.specs.{weigh};
+    ghost use Rattle.s66_model.specs.{Account, Event, Run, opening, best_time, Grant, Granted, Claim, Claimed, Back, Returned, NotOut, Retire, Retired, Taken, IsOfferOf, IsOwnPiece, Covers, bound_of};
+    ghost use Rattle.s66_model.specs.{IsFinished, IsBound, IsTable, BUDGET_LIMIT};
+    ghost use Rattle.s66_ledger.specs.{IsEvent, IsRecorded, events_of, account_summary, answer_of, IsGraft, IsRefusedGraft, claimed_node, IsTicketOf, IsLeastOpen, offered_reply};
     ghost use Rattle.s66_ledger.specs.declared.reply.BackError.TheVariants as refused;
 
     /// A ledger of a walk's block and profile, of one open node, the empty prefix, at which the walk is. Its best order is the source

@@ -1,17 +1,11 @@
 //! Writes the tree of an answer as lines, in preorder, for a certificate. What a line is stands in `s66_model`.
 
 ghost use Rattle.std.specs.Prelude.{◌≡◌, ◌≢◌, ◌<◌, ◌+◌, ◌++◌, [], ◌∷◌, true, length, IfOk, OnOk};
-ghost use Rattle.s66_bound.specs.LeafValues.{leaf_of};
-ghost use Rattle.s66_isa.specs.Members.{numbers_in};
-ghost use Rattle.s66_model.specs.Later.{children, coming, later};
-ghost use Rattle.s66_model.specs.LegalOrder.{is_ready, ready};
-ghost use Rattle.s66_model.specs.NodeTree.{is_split_at, ending_at};
-ghost use Rattle.s66_model.specs.DominatedLeaves.{Bounding};
-ghost use Rattle.s66_model.specs.Trees.{AtTerminal};
-ghost use Rattle.s66_ledger.specs.AnswerLines.{AreOneTree, StandsAt, lines_left};
-ghost use Rattle.s66_ledger.specs.Links.{AreLinks};
-ghost use Rattle.s66_ledger.specs.Nodes.{stored_at, nodes_of, HaveFloors};
+ghost use Rattle.s66_isa.specs.{numbers_in};
+ghost use Rattle.s66_model.specs.{children, coming, later, is_ready, ready, is_split_at, ending_at, Bounding, AtTerminal};
+ghost use Rattle.s66_bound.specs.{leaf_of};
 ghost use Rattle.s66_node.specs.declared.node.State.TheVariants as state;
+ghost use Rattle.s66_ledger.specs.{AreOneTree, StandsAt, lines_left, AreLinks, stored_at, nodes_of, HaveFloors};
 
 use crate::links::Links;
 use crate::path::{name_of, up};

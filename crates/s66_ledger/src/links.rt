@@ -1,7 +1,7 @@
 //! The children of each node of a table, since nodes know only their parents; for writing the tree.
 
 ghost use Rattle.std.specs.Prelude.{◌<◌, ◌^◌, length, IfOk};
-ghost use Rattle.s66_ledger.specs.Links.{AreLinks, IsChild, HasChild};
+ghost use Rattle.s66_ledger.specs.{AreLinks, IsChild, HasChild};
 
 use crate::path::up;
 use s66_node::Node;

@@ -1,8 +1,8 @@
 //! The least floor of the nodes that are open or out: the bound of a search that hasn't ended.
 
 ghost use Rattle.std.specs.Prelude.{◌≡◌, ◌∷◌};
-ghost use Rattle.s66_isa.specs.Lists.{least};
-ghost use Rattle.s66_ledger.specs.LiveNodes.{live_values};
+ghost use Rattle.s66_isa.specs.{least};
+ghost use Rattle.s66_ledger.specs.{live_values};
 
 use s66_node::Node;
 

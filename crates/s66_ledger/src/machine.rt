@@ -32,7 +32,7 @@ pub(crate) struct Machine<'a> {
 }
 
 impl<'a> Model for Machine<'a> {
-    ghost use Rattle.s66_line.specs.Blocks.{instrs_of};
+    ghost use Rattle.s66_line.specs.{instrs_of};
     ghost use Rattle.s66_ledger.specs.LedgerMachine.{MachineOf, machine_of, IsKeptMachine};
 
     ghost Value = { MachineOf };
@@ -46,22 +46,11 @@ impl<'a> Model for Machine<'a> {
 
 impl<'a> Machine<'a> {
     ghost use Rattle.std.specs.Prelude.{true, Some, None, [], ◌+◌, ◌≡◌, ◌<◌, ◌≤◌, ◌⊎◌, ◌↔◌, length, IfOk, IfErr, IfSome, IfNone, OnOk, OnErr, IsTrue};
-    ghost use Rattle.s66_line.specs.Blocks.{instrs_of};
-    ghost use Rattle.s66_model.specs.LegalOrder.{IsBeginning};
-    ghost use Rattle.s66_model.specs.Leaves.{floor_value};
-    ghost use Rattle.s66_model.specs.Trees.{splits};
-    ghost use Rattle.s66_model.specs.LedgerRuns.{Event, opening, best_time, allowance, is_live, node_at, IsOut, Grant, Granted, Claim, Claimed, Back, Returned, NotOut, Retire, Retired};
-    ghost use Rattle.s66_model.specs.Recorded.{IsOfferOf, IsOwnPiece};
-    ghost use Rattle.s66_model.specs.Coverage.{bound_of};
-    ghost use Rattle.s66_node.specs.Pieces.{tree_of};
-    ghost use Rattle.s66_ledger.specs.LedgerMachine.{IsMove};
-    ghost use Rattle.s66_model.specs.Ended.{IsEnded, ended_answer};
-    ghost use Rattle.s66_ledger.specs.Answers.{answer_of};
-    ghost use Rattle.s66_ledger.specs.Finishing.{NoneOut, WholesAreTimed};
-    ghost use Rattle.s66_ledger.specs.GraftMoves.{IsTakenMove, IsRefusedMove};
-    ghost use Rattle.s66_ledger.specs.ClaimedNodes.{claimed_node, IsTicketOf, IsLeastOpen};
-    ghost use Rattle.s66_ledger.specs.Replies.{offered_reply};
-    ghost use Rattle.s66_model.specs.declared.limits.TheConstants.{BUDGET_LIMIT};
+    ghost use Rattle.s66_line.specs.{instrs_of};
+    ghost use Rattle.s66_model.specs.{IsBeginning, floor_value, splits, Event, opening, best_time, allowance, is_live, node_at, IsOut, Grant, Granted, Claim, Claimed, Back, Returned, NotOut, Retire};
+    ghost use Rattle.s66_model.specs.{Retired, IsOfferOf, IsOwnPiece, bound_of, IsEnded, ended_answer, BUDGET_LIMIT};
+    ghost use Rattle.s66_node.specs.{tree_of};
+    ghost use Rattle.s66_ledger.specs.{IsMove, answer_of, NoneOut, WholesAreTimed, IsTakenMove, IsRefusedMove, claimed_node, IsTicketOf, IsLeastOpen, offered_reply};
     ghost use Rattle.s66_ledger.specs.declared.reply.BackError.TheVariants as refused;
 
     /// A machine of a walk's block and profile: of one open node, the empty prefix, at which the walk is, and whose best order is the

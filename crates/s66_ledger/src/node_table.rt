@@ -26,7 +26,7 @@ pub(crate) struct NodeTable {
 impl Model for NodeTable {
     ghost use Rattle.std.specs.Prelude.{List};
     ghost use Rattle.std.specs.BinaryHeap.{IsHeap, heap_items};
-    ghost use Rattle.s66_node.specs.declared.node.Node.{Node};
+    ghost use Rattle.s66_node.specs.{Node};
     ghost use Rattle.s66_ledger.specs.Nodes.{HaveDepths};
     ghost use Rattle.s66_ledger.specs.OpenNodes.{AreOpenNodes, compare_ranked};
     ghost use Rattle.s66_ledger.specs.LiveNodes.{AreCounted};
@@ -42,16 +42,9 @@ impl Model for NodeTable {
 
 impl NodeTable {
     ghost use Rattle.std.specs.Prelude.{ℕ, List, [], ◌∷◌, ◌+◌, ◌^◌, ◌≡◌, ◌<◌, ◌≤◌, ◌↔◌, true, false, IsTrue, IfOk, OnOk, OnErr, IfSome, IfNone, length, map, get_or};
-    ghost use Rattle.s66_isa.specs.Lists.{tally, least};
-    ghost use Rattle.s66_ledger.specs.LiveNodes.{live_values};
-    ghost use Rattle.s66_isa.specs.declared.limits.TheConstants.{BLOCK_LIMIT};
-    ghost use Rattle.s66_node.specs.declared.node.Node.{Node};
-    ghost use Rattle.s66_node.specs.declared.node.State.{State};
-    ghost use Rattle.s66_node.specs.Nodes.{named};
-    ghost use Rattle.s66_ledger.specs.Grafting.{IsGrafting, IsSplitUnder, IsAttachedAs, HaveNames};
-    ghost use Rattle.s66_node.specs.Nodes.{is_stored_live};
-    ghost use Rattle.s66_ledger.specs.Nodes.{stores_open, stored_at, put_state, prefixes, HaveFloors, HaveDepths};
-    ghost use Rattle.s66_ledger.specs.OpenNodes.{StoresOut, ranked};
+    ghost use Rattle.s66_isa.specs.{tally, least, BLOCK_LIMIT};
+    ghost use Rattle.s66_ledger.specs.{live_values, IsGrafting, IsSplitUnder, IsAttachedAs, HaveNames, stores_open, stored_at, put_state, prefixes, HaveFloors, HaveDepths, StoresOut, ranked};
+    ghost use Rattle.s66_node.specs.{Node, State, named, is_stored_live};
 
     /// One node, the empty prefix with its floor, open.
     pub(crate) fn new(alloc: Global, floor: u32) -> Result<NodeTable, AllocError>

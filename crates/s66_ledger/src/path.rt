@@ -1,9 +1,8 @@
 //! The prefix of a node in the table, read up its parents and turned around; and the name of a dominated one.
 
 ghost use Rattle.std.specs.Prelude.{[], ◌∷◌, ◌++◌, ◌≡◌, ◌<◌, ◌≤◌, ◌↔◌, length, get_or, IsTrue};
-ghost use Rattle.s66_isa.specs.declared.limits.TheConstants.{BLOCK_LIMIT};
-ghost use Rattle.s66_ledger.specs.Nodes.{name_at, stored_at, prefixes};
-ghost use Rattle.s66_ledger.specs.Links.{parent_of};
+ghost use Rattle.s66_isa.specs.{BLOCK_LIMIT};
+ghost use Rattle.s66_ledger.specs.{name_at, stored_at, prefixes, parent_of};
 
 use arrayvec::ArrayVec;
 use s66_isa::BLOCK_LIMIT;

@@ -1,8 +1,7 @@
 //! The rank of an open node in the heap: least floor first, then the deepest.
 
 ghost use Rattle.std.specs.Prelude.{◌≡◌, ◌<◌};
-ghost use Rattle.s66_ledger.specs.OpenNodes.{rank_of};
-ghost use Rattle.s66_ledger.specs.declared.limits.TheConstants.{DEPTH_RANKS};
+ghost use Rattle.s66_ledger.specs.{rank_of, DEPTH_RANKS};
 
 use crate::limits::{DEPTH_RANKS, RANKED_LIMIT};
 

@@ -5,8 +5,7 @@
 //! splits. After every 256 splits a list schedule is offered, so that the best time falls early.
 
 ghost use Rattle.std.specs.Prelude.{◌≡◌, ◌≤◌, ◌<◌, ◌/◌, ◌↔◌, IsTrue};
-ghost use Rattle.s66_ledger.specs.PieceSplits.{piece_splits};
-ghost use Rattle.s66_ledger.specs.declared.limits.TheConstants.{SCHEDULE_SPLITS};
+ghost use Rattle.s66_ledger.specs.{piece_splits, SCHEDULE_SPLITS};
 
 use crate::ledger::Ledger;
 use crate::limits::{DOMINATED_PIECE_LIMIT, SCHEDULE_SPLITS};
@@ -46,16 +45,10 @@ pub(crate) struct Stop {
 
 impl Ledger<'_> {
     ghost use Rattle.std.specs.Prelude.{true, false, Some, None, ◌≡◌, ◌≤◌, ◌<◌, OnOk, IfOk};
-    ghost use Rattle.s66_model.specs.Trees.{splits};
-    ghost use Rattle.s66_model.specs.Leaves.{floor_value};
-    ghost use Rattle.s66_model.specs.Timing.{total_of};
-    ghost use Rattle.s66_model.specs.LegalOrder.{IsBeginning};
+    ghost use Rattle.s66_model.specs.{splits, floor_value, total_of, IsBeginning, best_time, allowance, node_at, IsOut, Back, Returned, Covers};
     ghost use Rattle.s66_time.specs.TimedOrder.{TimedOrder};
-    ghost use Rattle.s66_model.specs.LedgerRuns.{best_time, allowance, node_at, IsOut, Back, Returned};
-    ghost use Rattle.s66_model.specs.Coverage.{Covers};
-    ghost use Rattle.s66_node.specs.Pieces.{tree_of};
-    ghost use Rattle.s66_ledger.specs.Ledgers.{IsEvent};
-    ghost use Rattle.s66_ledger.specs.Finishing.{Leads, IsIdle, WholesAreTimed, IsSearched, IsBetweenRounds, IsWithinRound, IsRoundPiece, IsOffering, IsTaken, still_to_go};
+    ghost use Rattle.s66_node.specs.{tree_of};
+    ghost use Rattle.s66_ledger.specs.{IsEvent, Leads, IsIdle, WholesAreTimed, IsSearched, IsBetweenRounds, IsWithinRound, IsRoundPiece, IsOffering, IsTaken, still_to_go};
 
     /// Searches as worker 1, from where the ledger is, until `most` splits are spent in all, the best time is no more than `goal` minor
     /// cycles, no open node's floor is below the best time, or the budget is spent. Every allowance and every node that is out is

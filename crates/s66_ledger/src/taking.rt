@@ -6,10 +6,8 @@ use std::alloc::AllocError;
 
 impl Ledger<'_> {
     ghost use Rattle.std.specs.Prelude.{◌<◌, ◌≤◌, length, OnOk};
-    ghost use Rattle.s66_model.specs.Timing.{total_of};
-    ghost use Rattle.s66_model.specs.LegalOrder.{IsLegal};
-    ghost use Rattle.s66_model.specs.LedgerRuns.{best_time};
-    ghost use Rattle.s66_ledger.specs.Finishing.{Leads, IsIdle, WholesAreTimed, IsOffering, IsReopening, IsTiming};
+    ghost use Rattle.s66_model.specs.{total_of, IsLegal, best_time};
+    ghost use Rattle.s66_ledger.specs.{Leads, IsIdle, WholesAreTimed, IsOffering, IsReopening, IsTiming};
 
     /// Takes back every allowance and every node that is out. If some node is out, this takes time linear in the number of nodes,
     /// with a logarithm of the number of open nodes for each that is.

@@ -1,14 +1,12 @@
-use Rattle.std.proofs.Common.{◌+◌, ◌≡◌, ◌∙◌, ◌++◌, ◌∷◌, [], arith, ap, sym, subst, length, take, map, heap_items, true≢false}
-use Rattle.std.proofs.lemmas.List.{length-take, take_all}
-use Rattle.std.specs.List.Sorted.{IsPermutation}
-use Rattle.s66_node.specs.Nodes.{named}
-use Rattle.s66_ledger.specs.Nodes.{stored_at}
-use Rattle.s66_ledger.specs.Grafting.{Grafts, IsGrafting}
+use Rattle.std.proofs.Common.{◌+◌, ◌≡◌, ◌∙◌, ◌++◌, ◌∷◌, [], arith, ap, sym, subst, length, take, map, heap_items, true≢false, length-take, take_all, IsPermutation}
+use Rattle.s66_node.specs.{named}
+use Rattle.s66_ledger.specs.{stored_at, IsGrafting}
+use Rattle.s66_ledger.specs.Grafting.{Grafts}
 use Rattle.s66_ledger.proofs.LiveCounts.{counted-push, shut-in}
 use Rattle.s66_ledger.proofs.OpenHeap.{more-open, more-shut}
 use Rattle.s66_ledger.proofs.Grafting.{grafting-length, grafting-more, grafts-in, grafts-index, names-index}
-use Rattle.s66_ledger.proofs.attaching.append.Goals as goal
 use Rattle.s66_ledger.proofs.attaching.append.Goals.{then-is_open+in-Ok, else-is_open}
+use Rattle.s66_ledger.proofs.attaching.append.Goals as goal
 
 pub grafted-node-requires : goal.grafted-node-requires
 grafted-node-requires c is = names-index (length c.args.dominances.now) c.args.below.now c.loop-i.i _ c.requires.names c.loop-i-test.true is

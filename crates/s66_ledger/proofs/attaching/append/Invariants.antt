@@ -1,10 +1,7 @@
-use Rattle.std.proofs.Common.{◌+◌, ◌-◌, ◌≤◌, ℕ, length, map, take, heap_items, heap_len, vec_len}
 use Rattle.std.specs.BinaryHeap.{IsHeap, heap_capacity}
-use Rattle.std.specs.Vec.{vec_capacity}
-use Rattle.s66_ledger.specs.LiveNodes.{AreCounted}
-use Rattle.s66_ledger.specs.OpenNodes.{AreOpenNodes, compare_ranked}
-use Rattle.s66_node.specs.Nodes.{named}
-use Rattle.s66_ledger.specs.Grafting.{IsGrafting}
+use Rattle.std.proofs.Common.{◌+◌, ◌-◌, ◌≤◌, ℕ, length, map, take, heap_items, heap_len, vec_len, vec_capacity}
+use Rattle.s66_node.specs.{named}
+use Rattle.s66_ledger.specs.{AreCounted, AreOpenNodes, compare_ranked, IsGrafting}
 use Rattle.s66_ledger.proofs.attaching.append.Given as goal
 
 abbrev pub invariant-loop-i : goal.invariant-loop-i

@@ -1,8 +1,6 @@
 use Rattle.std.proofs.Common.{◌++◌, ◌∷◌, [], ℕ, List, ◌≡◌, refl, ap, sym, subst, inl, ◌∙◌}
-use Rattle.s66_isa.specs.Lists.{Among}
-use Rattle.s66_isa.specs.Members.{numbers_in}
-use Rattle.s66_model.specs.LegalOrder.{ready}
-use Rattle.s66_model.specs.Later.{children, later}
+use Rattle.s66_isa.specs.{Among, numbers_in}
+use Rattle.s66_model.specs.{ready, children, later}
 use Rattle.s66_model.proofs.Remaining.{ready-among}
 use Rattle.s66_model.proofs.Later.{split-first}
 use Rattle.s66_node.specs.Walked.{Walked}

@@ -1,6 +1,6 @@
 use Rattle.std.proofs.Common.{ap, sym, subst}
 use Rattle.s66_node.specs.Walked.{Walked}
-use Rattle.s66_ledger.specs.AnswerLines.{StandsAt}
+use Rattle.s66_ledger.specs.{StandsAt}
 use Rattle.s66_ledger.proofs.AnswerLines.{has-child, child-stands}
 use Rattle.s66_ledger.proofs.lines.go_down.Goals as goal
 

@@ -1,11 +1,9 @@
 use Rattle.std.proofs.Common.{◌++◌, ◌∷◌, [], ℕ, List, Some, None, ◌≡◌, ap, sym, subst, arith, ◌∙◌}
-use Rattle.s66_model.specs.Timing.{Problem}
-use Rattle.s66_model.specs.Later.{later, IsNextReady}
+use Rattle.s66_model.specs.{Problem, later, IsNextReady}
 use Rattle.s66_model.proofs.Later.{next-ready, replaced, dropped}
 use Rattle.s66_node.specs.Walked.{Walked}
-use Rattle.s66_ledger.specs.AnswerLines.{AreOneTree, StandsAt}
-use Rattle.s66_ledger.specs.Nodes.{no_stored, stored_at}
-use Rattle.s66_node.specs.declared.node.Node.{Node}
+use Rattle.s66_node.specs.{Node}
+use Rattle.s66_ledger.specs.{AreOneTree, StandsAt, no_stored, stored_at}
 use Rattle.s66_ledger.proofs.NodePrefixes.{get_or-any}
 use Rattle.s66_ledger.proofs.AnswerLines.{parent-split, up-stands, root-stands}
 use Rattle.s66_ledger.proofs.lines.go_on.Goals as goal

@@ -1,6 +1,6 @@
 use Rattle.std.proofs.Common.{◌≡◌, []}
-use Rattle.s66_model.specs.Later.{later}
-use Rattle.s66_ledger.specs.AnswerLines.{StandsAt}
+use Rattle.s66_model.specs.{later}
+use Rattle.s66_ledger.specs.{StandsAt}
 use Rattle.s66_ledger.proofs.lines.go_on.Given as goal
 
 -- after this prefix comes what comes after the first

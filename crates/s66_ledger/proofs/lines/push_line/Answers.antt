@@ -1,11 +1,9 @@
 use Rattle.std.proofs.Common.{◌≡◌, ◌++◌, ◌∷◌, [], ℕ, List, ap, subst, ◌∙◌}
-use Rattle.s66_isa.specs.Members.{numbers_in}
-use Rattle.s66_model.specs.DominatedLeaves.{Ending}
-use Rattle.s66_model.specs.Later.{children, coming, later}
-use Rattle.s66_model.specs.Trees.{Vertex, AtSplit}
-use Rattle.s66_node.specs.declared.node.Node.{Node}
+use Rattle.s66_isa.specs.{numbers_in}
+use Rattle.s66_model.specs.{Ending, children, coming, later, Vertex, AtSplit}
+use Rattle.s66_node.specs.{Node}
 use Rattle.s66_node.specs.Walked.{Walked}
-use Rattle.s66_ledger.specs.Nodes.{no_stored}
+use Rattle.s66_ledger.specs.{no_stored}
 use Rattle.s66_ledger.proofs.AnswerLines.{split-here, split-line, terminal-line, line-appended, one-longer}
 use Rattle.s66_ledger.proofs.NodePrefixes.{get_or-any}
 use Rattle.s66_ledger.proofs.lines.push_line.Goals as goal

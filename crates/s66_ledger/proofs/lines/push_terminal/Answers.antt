@@ -1,9 +1,8 @@
 use Rattle.std.proofs.Common.{◌≡◌, ◌++◌, ◌∷◌, [], List, ap, sym, arith, ◌∙◌}
 use Rattle.std.proofs.lemmas.Result.{on_ok_weaker}
-use Rattle.s66_model.specs.DominatedLeaves.{Ending, Bounding, Dominated}
-use Rattle.s66_model.specs.Trees.{Vertex, AtTerminal}
-use Rattle.s66_node.specs.declared.node.Node.{Node}
-use Rattle.s66_ledger.specs.Nodes.{no_stored}
+use Rattle.s66_model.specs.{Ending, Bounding, Dominated, Vertex, AtTerminal}
+use Rattle.s66_node.specs.{Node}
+use Rattle.s66_ledger.specs.{no_stored}
 use Rattle.s66_ledger.proofs.AnswerLines.{floor-here, name-here, name-short}
 use Rattle.s66_ledger.proofs.NodePrefixes.{get_or-any}
 use Rattle.s66_ledger.proofs.lines.push_terminal.Goals as goal

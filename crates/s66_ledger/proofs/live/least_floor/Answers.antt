@@ -1,7 +1,7 @@
 use Rattle.std.proofs.Common.{◌∙◌, sym, arith}
 use Rattle.s66_ledger.proofs.LiveFloors.{least-live, least-dead}
-use Rattle.s66_ledger.proofs.live.least_floor.Goals as goal
 use Rattle.s66_ledger.proofs.live.least_floor.Goals.{then-is_live, else-is_live}
+use Rattle.s66_ledger.proofs.live.least_floor.Goals as goal
 
 pub loop-i-preserved : goal.loop-i-preserved
 loop-i-preserved c = elim c.if-is_live.branch [

@@ -1,6 +1,6 @@
 use Rattle.std.proofs.Common.{◌≡◌, ◌∷◌, take}
-use Rattle.s66_isa.specs.Lists.{least}
-use Rattle.s66_ledger.specs.LiveNodes.{live_values}
+use Rattle.s66_isa.specs.{least}
+use Rattle.s66_ledger.specs.{live_values}
 use Rattle.s66_ledger.proofs.live.least_floor.Given as goal
 
 abbrev pub invariant-loop-i : goal.invariant-loop-i

@@ -1,5 +1,5 @@
 use Rattle.std.proofs.Common.{◌≡◌, ◌-◌, [], arith, get_or}
-use Rattle.s66_ledger.specs.Nodes.{prefixes, no_stored}
+use Rattle.s66_ledger.specs.{prefixes, no_stored}
 use Rattle.s66_ledger.proofs.NodePrefixes.{prefix-last}
 use Rattle.s66_ledger.proofs.ParentPaths.{turn-none, turn-not, turn-last}
 use Rattle.s66_ledger.proofs.path.is_over.Goals as goal

@@ -1,9 +1,9 @@
 use Rattle.std.proofs.Common.{◌∙◌, [], arith, ap, sym, get_or, length}
-use Rattle.s66_node.specs.declared.node.Node.{Node}
-use Rattle.s66_ledger.specs.Nodes.{prefixes, no_stored}
+use Rattle.s66_node.specs.{Node}
+use Rattle.s66_ledger.specs.{prefixes, no_stored}
 use Rattle.s66_ledger.proofs.NodePrefixes.{get_or-any, name-below, name-root}
-use Rattle.s66_ledger.proofs.path.name_of.Goals as goal
 use Rattle.s66_ledger.proofs.path.name_of.Goals.{then-value-node, else-value-node}
+use Rattle.s66_ledger.proofs.path.name_of.Goals as goal
 
 pub prefix_of-requires-clause-few : goal.prefix_of-requires-clause-few
 prefix_of-requires-clause-few c =

@@ -1,7 +1,7 @@
-use Rattle.std.proofs.Common.{ℕ, List, ◌≡◌, ◌∷◌, ◌++◌, ◌∙◌, [], ap, sym, arith, get_or, length, length-append, reverse, drop}
-use Rattle.std.proofs.lemmas.List.{length-reverse, take-append-le, take_all}
 use Rattle.std.specs.List.{refill}
-use Rattle.s66_ledger.specs.Nodes.{prefixes, no_stored}
+use Rattle.std.proofs.Common.{ℕ, List, ◌≡◌, ◌∷◌, ◌++◌, ◌∙◌, [], ap, sym, arith, get_or, length, length-append, reverse, drop, take_all}
+use Rattle.std.proofs.lemmas.List.{length-reverse, take-append-le}
+use Rattle.s66_ledger.specs.{prefixes, no_stored}
 use Rattle.s66_ledger.proofs.NodePrefixes.{prefix-last, prefix-none}
 use Rattle.s66_ledger.proofs.path.prefix_of.Goals as goal
 

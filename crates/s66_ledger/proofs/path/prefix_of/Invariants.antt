@@ -1,5 +1,5 @@
 use Rattle.std.proofs.Common.{◌≡◌, ◌<◌, ◌++◌, [], length, reverse, get_or}
-use Rattle.s66_ledger.specs.Nodes.{prefixes}
+use Rattle.s66_ledger.specs.{prefixes}
 use Rattle.s66_ledger.proofs.path.prefix_of.Given as goal
 
 abbrev pub invariant-loop-i : goal.invariant-loop-i

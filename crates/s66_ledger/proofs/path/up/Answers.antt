@@ -1,4 +1,4 @@
-use Rattle.s66_ledger.specs.Nodes.{no_stored}
+use Rattle.s66_ledger.specs.{no_stored}
 use Rattle.s66_ledger.proofs.NodePrefixes.{get_or-any, prefix-below, prefix-root}
 use Rattle.s66_ledger.proofs.path.up.Goals as goal
 

@@ -1,8 +1,8 @@
 use Rattle.std.proofs.Common.{subst}
-use Rattle.s66_model.specs.BestAndBound.{IsBound}
+use Rattle.s66_model.specs.{IsBound}
 use Rattle.s66_model.proofs.AnswerBound.{answer-bound}
 use Rattle.s66_model.proofs.Floors.{floor-stands}
-use Rattle.s66_ledger.specs.Answers.{AnswerOf}
+use Rattle.s66_ledger.specs.{AnswerOf}
 use Rattle.s66_ledger.proofs.answer.Answer.bound.Goals as goal
 
 pub returns-clause-bound : goal.returns-clause-bound

@@ -1,5 +1,5 @@
 use Rattle.std.proofs.Common.{ap, arith, length}
-use Rattle.s66_ledger.specs.Answers.{AnswerOf}
+use Rattle.s66_ledger.specs.{AnswerOf}
 use Rattle.s66_ledger.proofs.SeenNodes.{length-nodes}
 use Rattle.s66_ledger.proofs.answer.Answer.line_count.Goals as goal
 

@@ -1,6 +1,6 @@
 use Rattle.std.proofs.Common.{◌∙◌, ap}
-use Rattle.s66_model.specs.Answer.{source_time}
-use Rattle.s66_ledger.specs.Answers.{AnswerOf}
+use Rattle.s66_model.specs.{source_time}
+use Rattle.s66_ledger.specs.{AnswerOf}
 use Rattle.s66_ledger.proofs.answer.Answer.source.Goals as goal
 
 pub returns : goal.returns

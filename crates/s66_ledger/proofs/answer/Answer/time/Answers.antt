@@ -1,6 +1,6 @@
 use Rattle.std.proofs.Common.{subst}
-use Rattle.s66_model.specs.Answer.{IsAnswer}
-use Rattle.s66_ledger.specs.Answers.{AnswerOf, answer_of}
+use Rattle.s66_model.specs.{IsAnswer}
+use Rattle.s66_ledger.specs.{AnswerOf, answer_of}
 use Rattle.s66_ledger.proofs.answer.Answer.time.Goals as goal
 
 pub returns-clause-answer : goal.returns-clause-answer

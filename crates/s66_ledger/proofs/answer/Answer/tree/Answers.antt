@@ -1,17 +1,10 @@
 use Rattle.std.proofs.Common.{◌≡◌, ◌∙◌, [], ◌∷◌, ◌++◌, ℕ, List, arith, ap, sym, subst, length}
-use Rattle.s66_isa.specs.declared.instr.Instr.{Instr}
-use Rattle.s66_isa.specs.declared.profile.Profile.{Profile}
-use Rattle.s66_model.specs.Timing.{Problem}
-use Rattle.s66_model.specs.DominatedLeaves.{Ending}
-use Rattle.s66_model.specs.Trees.{Vertex, flat}
-use Rattle.s66_model.specs.Later.{later}
-use Rattle.s66_model.specs.NodeTree.{node_tree}
-use Rattle.s66_line.specs.Blocks.{instrs_of}
+use Rattle.s66_isa.specs.{Instr, Profile}
+use Rattle.s66_model.specs.{Problem, Ending, Vertex, flat, later, node_tree}
+use Rattle.s66_line.specs.{instrs_of}
 use Rattle.s66_node.specs.Walked.{Walked}
-use Rattle.s66_ledger.specs.Answers.{AnswerOf, answer_of}
-use Rattle.s66_ledger.specs.AnswerLines.{AreOneTree, StandsAt, lines_from, lines_left}
-use Rattle.s66_ledger.specs.Nodes.{nodes_of, HaveFloors}
-use Rattle.s66_node.specs.declared.node.Node.{Node}
+use Rattle.s66_node.specs.{Node}
+use Rattle.s66_ledger.specs.{AnswerOf, answer_of, AreOneTree, StandsAt, lines_from, lines_left, nodes_of, HaveFloors}
 use Rattle.s66_ledger.proofs.AnswerLines.{fewer-left, one-tree, root-there, lines-whole}
 use Rattle.s66_ledger.proofs.SeenNodes.{length-nodes}
 use Rattle.s66_ledger.proofs.answer.Answer.tree.Goals as goal

@@ -1,7 +1,6 @@
 use Rattle.std.proofs.Common.{◌≡◌, ◌++◌, true, length}
-use Rattle.s66_model.specs.Trees.{flat}
-use Rattle.s66_ledger.specs.Answers.{answer_of}
-use Rattle.s66_ledger.specs.AnswerLines.{StandsAt, lines_left}
+use Rattle.s66_model.specs.{flat}
+use Rattle.s66_ledger.specs.{answer_of, StandsAt, lines_left}
 use Rattle.s66_ledger.proofs.answer.Answer.tree.Given as goal
 
 abbrev pub invariant-loop-more : goal.invariant-loop-more

@@ -1,10 +1,6 @@
 use Rattle.std.proofs.Common.{[], ◌≡◌, ◌≤◌, ◌<◌, ◌∙◌, ap, subst, sym}
-use Rattle.s66_model.specs.LegalOrder.{IsLegal}
-use Rattle.s66_model.specs.Timing.{Problem, total_of}
-use Rattle.s66_model.specs.Answer.{source_time}
-use Rattle.s66_model.specs.Ended.{ended_answer}
-use Rattle.s66_ledger.specs.Answers.{AnswerOf, IsKeptAnswer, answer_of, ended_of}
-use Rattle.s66_ledger.specs.LedgerMachine.{ledger_from}
+use Rattle.s66_model.specs.{IsLegal, Problem, total_of, source_time, ended_answer}
+use Rattle.s66_ledger.specs.{AnswerOf, IsKeptAnswer, answer_of, ended_of, ledger_from}
 use Rattle.s66_ledger.proofs.Reordered.{reordered, reordered-answer}
 use Rattle.s66_ledger.proofs.answer.Answer.with_order.Goals as goal
 

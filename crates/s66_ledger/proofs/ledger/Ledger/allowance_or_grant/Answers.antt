@@ -1,8 +1,7 @@
 use Rattle.std.proofs.Common.{◌≡◌, subst, ap, arith}
-use Rattle.s66_model.specs.Coverage.{Covers}
-use Rattle.s66_model.specs.LedgerRuns.{Grant, Granted, allowance}
+use Rattle.s66_model.specs.{Covers, Grant, Granted, allowance}
 use Rattle.s66_model.proofs.Histories.{reached-covers}
-use Rattle.s66_ledger.specs.Ledgers.{LedgerOf}
+use Rattle.s66_ledger.specs.{LedgerOf}
 use Rattle.s66_ledger.proofs.Leading.{event-leads}
 use Rattle.s66_ledger.proofs.Rounds.{grant-between, grant-spent}
 use Rattle.s66_ledger.proofs.ledger.Ledger.allowance_or_grant.Goals as goal

@@ -1,8 +1,7 @@
 use Rattle.std.proofs.Common.{subst}
-use Rattle.s66_model.specs.Coverage.{Covers}
-use Rattle.s66_model.specs.NodeTable.{IsTable}
+use Rattle.s66_model.specs.{Covers, IsTable}
 use Rattle.s66_model.proofs.Histories.{reached-covers, reached-table}
-use Rattle.s66_ledger.specs.Ledgers.{LedgerOf}
+use Rattle.s66_ledger.specs.{LedgerOf}
 use Rattle.s66_ledger.proofs.ledger.Ledger.best.Goals as goal
 
 pub returns-clause-covers : goal.returns-clause-covers

@@ -1,9 +1,8 @@
 use Rattle.std.proofs.Common.{◌∙◌, ap, sym, subst}
-use Rattle.s66_model.specs.BestAndBound.{IsBound}
-use Rattle.s66_model.specs.Coverage.{bound_of}
+use Rattle.s66_model.specs.{IsBound, bound_of}
 use Rattle.s66_model.proofs.Histories.{reached-covers, reached-table}
 use Rattle.s66_model.proofs.EndedLedgers.{covers-bound}
-use Rattle.s66_ledger.specs.Ledgers.{LedgerOf, IsRecorded}
+use Rattle.s66_ledger.specs.{LedgerOf, IsRecorded}
 use Rattle.s66_ledger.proofs.ledger.Ledger.bound.Goals as goal
 
 recorded-bound : (l : LedgerOf) → IsRecorded l → IsBound l.problem (bound_of l.problem l.state)

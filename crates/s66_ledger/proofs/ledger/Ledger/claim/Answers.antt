@@ -1,7 +1,6 @@
 use Rattle.std.proofs.Common.{refl, ap, subst}
-use Rattle.s66_model.specs.LedgerRuns.{Claim, Claimed}
-use Rattle.s66_ledger.specs.ClaimedNodes.{claimed_node}
-use Rattle.s66_ledger.specs.Ledgers.{LedgerOf, IsEvent, with_history}
+use Rattle.s66_model.specs.{Claim, Claimed}
+use Rattle.s66_ledger.specs.{claimed_node, LedgerOf, IsEvent, with_history}
 use Rattle.s66_ledger.proofs.Recording.{recorded-alone, event-alone}
 use Rattle.s66_ledger.proofs.ledger.Ledger.claim.Goals as goal
 

@@ -1,8 +1,6 @@
 use Rattle.std.proofs.Common.{◌∙◌, refl, ap, sym, subst}
-use Rattle.s66_model.specs.Coverage.{IsFinished}
-use Rattle.s66_model.specs.Reached.{IsReached}
-use Rattle.s66_model.specs.Ended.{IsEnded, ended_answer}
-use Rattle.s66_ledger.specs.Ledgers.{LedgerOf}
+use Rattle.s66_model.specs.{IsFinished, IsReached, IsEnded, ended_answer}
+use Rattle.s66_ledger.specs.{LedgerOf}
 use Rattle.s66_ledger.proofs.Ends.{reached-end, finishes}
 use Rattle.s66_ledger.proofs.ledger.Ledger.finish.Goals as goal
 

@@ -1,4 +1,4 @@
-use Rattle.s66_model.specs.LedgerRuns.{Back, Returned}
+use Rattle.s66_model.specs.{Back, Returned}
 use Rattle.s66_ledger.proofs.Leading.{event-leads}
 use Rattle.s66_ledger.proofs.ledger.Ledger.give_back.Goals as goal
 

@@ -1,14 +1,7 @@
 use Rattle.std.proofs.Common.{ℕ, ◌∙◌, ◌-◌, true, ◌≡◌, None, refl, ap, sym, subst, length, drop, arith, length-append}
-use Rattle.s66_model.specs.Trees.{flat}
-use Rattle.s66_model.specs.LedgerRuns.{Graft, Reply, Taken}
-use Rattle.s66_model.specs.Recorded.{IsOwnPiece}
-use Rattle.s66_node.specs.Pieces.{PieceOf}
-use Rattle.s66_ledger.specs.declared.reply.GraftError.{GraftError}
-use Rattle.s66_ledger.specs.HistoryEntries.{refusal_reply}
-use Rattle.s66_ledger.specs.LedgerMachine.{MachineOf}
-use Rattle.s66_ledger.specs.GraftMoves.{IsGraftMove, IsRefusedMove, taken_event, IsTakenMove}
-use Rattle.s66_ledger.specs.Grafts.{IsGraft, IsRefusedGraft}
-use Rattle.s66_ledger.specs.Ledgers.{LedgerOf, with_history, IsRecorded}
+use Rattle.s66_model.specs.{flat, Graft, Reply, Taken, IsOwnPiece}
+use Rattle.s66_node.specs.{PieceOf}
+use Rattle.s66_ledger.specs.{GraftError, refusal_reply, MachineOf, IsGraftMove, IsRefusedMove, taken_event, IsTakenMove, IsGraft, IsRefusedGraft, LedgerOf, with_history, IsRecorded}
 use Rattle.s66_ledger.proofs.Recording.{noted, noted-lineless, root-state, taken-entry, refused-move, refused-entry, refused-at}
 use Rattle.s66_ledger.proofs.ledger.Ledger.graft_if.Goals as goal
 

@@ -1,6 +1,5 @@
 use Rattle.std.proofs.Common.{subst}
-use Rattle.s66_ledger.specs.declared.reply.GraftError.{GraftError}
-use Rattle.s66_ledger.specs.Grafts.{IsRefusedGraft}
+use Rattle.s66_ledger.specs.{GraftError, IsRefusedGraft}
 use Rattle.s66_ledger.proofs.Rounds.{graft-taken, taken-leads, never-too_large}
 use Rattle.s66_ledger.proofs.ledger.Ledger.graft_within.Goals as goal
 

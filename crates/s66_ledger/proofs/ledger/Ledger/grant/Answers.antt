@@ -1,6 +1,6 @@
 use Rattle.std.proofs.Common.{refl, subst}
-use Rattle.s66_model.specs.LedgerRuns.{Grant, Granted}
-use Rattle.s66_ledger.specs.Ledgers.{LedgerOf, IsEvent, with_history}
+use Rattle.s66_model.specs.{Grant, Granted}
+use Rattle.s66_ledger.specs.{LedgerOf, IsEvent, with_history}
 use Rattle.s66_ledger.proofs.Recording.{recorded-alone, event-alone}
 use Rattle.s66_ledger.proofs.ledger.Ledger.grant.Goals as goal
 

@@ -1,9 +1,7 @@
 use Rattle.std.proofs.Common.{◌≡◌, ◌∙◌, refl, ap, subst, arith}
+use Rattle.s66_model.specs.{Event, IsOwn, IsOfferOf}
 use Rattle.s66_time.specs.Ordered.{Ordered}
-use Rattle.s66_model.specs.LedgerRuns.{Event}
-use Rattle.s66_model.specs.Recorded.{IsOwn, IsOfferOf}
-use Rattle.s66_ledger.specs.Replies.{offered_reply}
-use Rattle.s66_ledger.specs.Ledgers.{LedgerOf, IsEvent, with_history}
+use Rattle.s66_ledger.specs.{offered_reply, LedgerOf, IsEvent, with_history}
 use Rattle.s66_ledger.proofs.Recording.{recorded-lineless, event-lineless, offered-own, offer-entry}
 use Rattle.s66_ledger.proofs.ledger.Ledger.offer.Goals as goal
 

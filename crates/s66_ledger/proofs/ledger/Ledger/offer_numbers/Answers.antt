@@ -1,9 +1,7 @@
-use Rattle.std.proofs.Common.{◌≡◌, ◌∙◌, true≢false, List, ap, sym, subst, arith}
-use Rattle.std.specs.Result.{is_ok}
-use Rattle.s66_line.specs.Blocks.{instrs_of}
-use Rattle.s66_isa.specs.declared.instr.Instr.{Instr}
-use Rattle.s66_model.specs.Timing.{Problem, total_of}
-use Rattle.s66_model.specs.LegalOrder.{IsLegal}
+use Rattle.std.proofs.Common.{◌≡◌, ◌∙◌, true≢false, List, ap, sym, subst, arith, is_ok}
+use Rattle.s66_isa.specs.{Instr}
+use Rattle.s66_model.specs.{Problem, total_of, IsLegal}
+use Rattle.s66_line.specs.{instrs_of}
 use Rattle.s66_time.specs.TimedOrder.{TimedOrder}
 use Rattle.s66_ledger.proofs.ledger.Ledger.offer_numbers.Goals as goal
 

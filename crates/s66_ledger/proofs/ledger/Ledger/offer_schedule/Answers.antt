@@ -1,5 +1,5 @@
-use Rattle.s66_ledger.proofs.Rounds.{nothing-offered}
 use Rattle.std.proofs.Common.{refl}
+use Rattle.s66_ledger.proofs.Rounds.{nothing-offered}
 use Rattle.s66_ledger.proofs.ledger.Ledger.offer_schedule.Goals as goal
 
 pub returns-in-None-clause-offers : goal.returns-in-None-clause-offers

@@ -1,7 +1,6 @@
 use Rattle.std.proofs.Common.{◌∙◌, ap, sym, subst}
-use Rattle.s66_model.specs.LegalOrder.{IsLegal}
-use Rattle.s66_model.specs.LedgerRuns.{node_at}
-use Rattle.s66_ledger.specs.Ledgers.{LedgerOf}
+use Rattle.s66_model.specs.{IsLegal, node_at}
+use Rattle.s66_ledger.specs.{LedgerOf}
 use Rattle.s66_ledger.proofs.WholeOffers.{whole-legal, timed-now}
 use Rattle.s66_ledger.proofs.ledger.Ledger.offer_whole.Goals as goal
 

@@ -1,5 +1,5 @@
 use Rattle.std.proofs.Common.{arith, ap, length}
-use Rattle.s66_model.specs.LedgerRuns.{Ledger}
+use Rattle.s66_model.specs.{Ledger}
 use Rattle.s66_ledger.proofs.Rounds.{offer-on}
 use Rattle.s66_ledger.proofs.WholeOffers.{timed-next, all-timed}
 use Rattle.s66_ledger.proofs.ledger.Ledger.offer_wholes.Goals as goal

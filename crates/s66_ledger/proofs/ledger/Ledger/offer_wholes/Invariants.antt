@@ -1,5 +1,5 @@
 use Rattle.std.proofs.Common.{ℕ, ◌<◌}
-use Rattle.s66_ledger.specs.Finishing.{IsOffering, IsTimedAt}
+use Rattle.s66_ledger.specs.{IsOffering, IsTimedAt}
 use Rattle.s66_ledger.proofs.ledger.Ledger.offer_wholes.Given as goal
 
 abbrev pub invariant-loop-node : goal.invariant-loop-node

@@ -1,6 +1,6 @@
 use Rattle.std.proofs.Common.{◌↔◌, IsTrue, true≢false, sym, subst, ◌∙◌}
-use Rattle.s66_model.specs.LedgerRuns.{IsOut}
-use Rattle.s66_ledger.specs.Ledgers.{LedgerOf}
+use Rattle.s66_model.specs.{IsOut}
+use Rattle.s66_ledger.specs.{LedgerOf}
 use Rattle.s66_ledger.proofs.TakingBack.{reopened, stayed-in}
 use Rattle.s66_ledger.proofs.ledger.Ledger.reopen.Goals as goal
 

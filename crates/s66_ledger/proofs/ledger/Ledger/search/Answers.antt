@@ -1,4 +1,4 @@
-use Rattle.s66_model.specs.LedgerRuns.{Retire, Retired}
+use Rattle.s66_model.specs.{Retire, Retired}
 use Rattle.s66_ledger.proofs.Leading.{leads-on, leads-still, leads-best, event-leads}
 use Rattle.s66_ledger.proofs.ledger.Ledger.search.Goals as goal
 

@@ -1,10 +1,6 @@
 use Rattle.std.proofs.Common.{◌∙◌, Option, subst, sym, ap}
-use Rattle.s66_model.specs.LegalOrder.{IsBeginning}
-use Rattle.s66_model.specs.Leaves.{floor_value}
-use Rattle.s66_model.specs.LedgerRuns.{Claim, Claimed, Back, Returned, best_time, node_at}
-use Rattle.s66_model.specs.Tickets.{TicketOf}
-use Rattle.s66_ledger.specs.Ledgers.{LedgerOf, IsEvent}
-use Rattle.s66_ledger.specs.ClaimedNodes.{claimed_node, IsTicketOf, IsLeastOpen}
+use Rattle.s66_model.specs.{IsBeginning, floor_value, Claim, Claimed, Back, Returned, best_time, node_at, TicketOf}
+use Rattle.s66_ledger.specs.{LedgerOf, IsEvent, claimed_node, IsTicketOf, IsLeastOpen}
 use Rattle.s66_ledger.proofs.Events.{holds-at}
 use Rattle.s66_ledger.proofs.Leading.{leads-on, event-leads}
 use Rattle.s66_ledger.proofs.Rounds.{claim-within}

@@ -1,5 +1,5 @@
 use Rattle.std.proofs.Common.{◌≡◌}
-use Rattle.s66_ledger.specs.Finishing.{Leads, IsBetweenRounds, still_to_go}
+use Rattle.s66_ledger.specs.{Leads, IsBetweenRounds, still_to_go}
 use Rattle.s66_ledger.proofs.ledger.Ledger.search_rounds.Given as goal
 
 abbrev pub invariant-loop-alloc : goal.invariant-loop-alloc

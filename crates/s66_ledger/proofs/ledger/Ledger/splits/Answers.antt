@@ -1,8 +1,8 @@
 use Rattle.std.proofs.Common.{◌≡◌, arith, ap, subst}
-use Rattle.s66_isa.specs.Lists.{weigh}
-use Rattle.s66_model.specs.Accounts.{Account}
+use Rattle.s66_isa.specs.{weigh}
+use Rattle.s66_model.specs.{Account}
 use Rattle.s66_ledger.specs.declared.ledger.Ledger.TheInside.{Inside}
-use Rattle.s66_ledger.specs.Ledgers.{LedgerOf, account_summary, with_history}
+use Rattle.s66_ledger.specs.{LedgerOf, account_summary, with_history}
 use Rattle.s66_ledger.proofs.Events.{kept-room}
 use Rattle.s66_ledger.proofs.Recording.{accounts-spent}
 use Rattle.s66_ledger.proofs.Stored.{stored_of}

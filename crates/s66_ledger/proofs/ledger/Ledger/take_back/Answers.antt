@@ -1,7 +1,6 @@
 use Rattle.std.proofs.Common.{◌+◌, ◌∙◌, arith, ap, length, subst}
-use Rattle.s66_model.specs.LedgerRuns.{Retire, Retired}
-use Rattle.s66_ledger.specs.Finishing.{NoneOut}
-use Rattle.s66_ledger.specs.Ledgers.{LedgerOf}
+use Rattle.s66_model.specs.{Retire, Retired}
+use Rattle.s66_ledger.specs.{NoneOut, LedgerOf}
 use Rattle.s66_ledger.proofs.Leading.{leads-on, event-leads}
 use Rattle.s66_ledger.proofs.TakingBack.{retired-next, retired-count, retired-all, idle-after}
 use Rattle.s66_ledger.proofs.ledger.Ledger.take_back.Goals as goal

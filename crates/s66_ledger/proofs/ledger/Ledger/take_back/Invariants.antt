@@ -1,6 +1,6 @@
 use Rattle.std.proofs.Common.{◌≡◌, length, take}
-use Rattle.s66_isa.specs.Lists.{weigh}
-use Rattle.s66_ledger.specs.Finishing.{Leads, NoneOutBelow}
+use Rattle.s66_isa.specs.{weigh}
+use Rattle.s66_ledger.specs.{Leads, NoneOutBelow}
 use Rattle.s66_ledger.proofs.ledger.Ledger.take_back.Given as goal
 
 abbrev pub invariant-loop-at : goal.invariant-loop-at

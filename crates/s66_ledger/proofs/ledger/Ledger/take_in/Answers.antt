@@ -1,9 +1,7 @@
 use Rattle.std.proofs.Common.{◌≤◌, subst, sym}
-use Rattle.s66_model.specs.Timing.{Problem}
-use Rattle.s66_model.specs.LedgerRuns.{best_time, allowance}
-use Rattle.s66_node.specs.Pieces.{tree_of, IsBestTimed}
-use Rattle.s66_ledger.specs.PieceSplits.{piece_splits}
-use Rattle.s66_ledger.specs.Finishing.{IsWithinRound, IsTaken}
+use Rattle.s66_model.specs.{Problem, best_time, allowance}
+use Rattle.s66_node.specs.{tree_of, IsBestTimed}
+use Rattle.s66_ledger.specs.{piece_splits, IsWithinRound, IsTaken}
 use Rattle.s66_ledger.proofs.Leading.{leads-on}
 use Rattle.s66_ledger.proofs.Rounds.{offer-within, graft-between}
 use Rattle.s66_ledger.proofs.TimedWholes.{least-timed}

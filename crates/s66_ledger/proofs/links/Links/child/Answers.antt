@@ -1,5 +1,5 @@
 use Rattle.std.proofs.Common.{arith, ◌∙◌}
-use Rattle.s66_ledger.specs.Nodes.{no_stored}
+use Rattle.s66_ledger.specs.{no_stored}
 use Rattle.s66_ledger.proofs.Chained.{last-past, next-past, next-below, child-here}
 use Rattle.s66_ledger.proofs.NodePrefixes.{get_or-any}
 use Rattle.s66_ledger.proofs.links.Links.child.Goals as goal

@@ -1,4 +1,4 @@
-use Rattle.s66_ledger.specs.Links.{AreLinks}
+use Rattle.s66_ledger.specs.{AreLinks}
 use Rattle.s66_ledger.proofs.links.Links.of.Given as goal
 
 abbrev pub invariant-loop-node : goal.invariant-loop-node

@@ -1,8 +1,7 @@
 use Rattle.std.proofs.Common.{true≢false, ◌∙◌, ap, sym, subst}
 use Rattle.s66_model.specs.LedgerRuns as model
 use Rattle.s66_node.specs.declared.node.State.TheVariants as state
-use Rattle.s66_ledger.specs.Nodes.{made_lines}
-use Rattle.s66_ledger.specs.LedgerMachine.{MachineOf, IsMove, IsKeptMachine, machine_of}
+use Rattle.s66_ledger.specs.{made_lines, MachineOf, IsMove, IsKeptMachine, machine_of}
 use Rattle.s66_ledger.proofs.Stored.{stored_of}
 use Rattle.s66_ledger.proofs.SeenNodes.{lines-state}
 use Rattle.s66_ledger.proofs.Events.{kept-back, event-back, event-not-out}

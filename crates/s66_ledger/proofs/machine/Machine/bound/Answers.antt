@@ -1,9 +1,7 @@
 use Rattle.std.proofs.Common.{◌∙◌, ◌∷◌, ap, sym}
-use Rattle.s66_isa.specs.Lists.{least}
-use Rattle.s66_model.specs.Timing.{total_of}
-use Rattle.s66_model.specs.Coverage.{bound_of}
-use Rattle.s66_ledger.specs.LiveNodes.{live_values}
-use Rattle.s66_ledger.specs.LedgerMachine.{MachineOf}
+use Rattle.s66_isa.specs.{least}
+use Rattle.s66_model.specs.{total_of, bound_of}
+use Rattle.s66_ledger.specs.{live_values, MachineOf}
 use Rattle.s66_ledger.proofs.Stored.{stored_of}
 use Rattle.s66_ledger.proofs.LiveFloors.{live-same}
 use Rattle.s66_ledger.proofs.machine.Machine.bound.Goals as goal

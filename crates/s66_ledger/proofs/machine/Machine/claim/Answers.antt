@@ -1,12 +1,10 @@
 use Rattle.std.proofs.Common.{ℕ, true, List, Some, None, ◌≡◌, ◌≤◌, ◌∙◌, [], arith, length, ap, sym, subst, get_or, refl}
-use Rattle.s66_isa.specs.declared.limits.TheConstants.{BLOCK_LIMIT}
-use Rattle.s66_model.specs.Leaves.{floor_value}
+use Rattle.s66_isa.specs.{BLOCK_LIMIT}
+use Rattle.s66_model.specs.{floor_value, TicketOf}
 use Rattle.s66_model.specs.LedgerRuns as model
-use Rattle.s66_node.specs.declared.node.Node.{Node}
+use Rattle.s66_node.specs.{Node}
 use Rattle.s66_node.specs.declared.node.State.TheVariants as state
-use Rattle.s66_ledger.specs.Nodes.{prefixes, made_lines, no_stored, stored_at}
-use Rattle.s66_model.specs.Tickets.{TicketOf}
-use Rattle.s66_ledger.specs.LedgerMachine.{MachineOf, IsMove, IsKeptMachine, machine_of}
+use Rattle.s66_ledger.specs.{prefixes, made_lines, no_stored, stored_at, MachineOf, IsMove, IsKeptMachine, machine_of}
 use Rattle.s66_ledger.proofs.Stored.{stored_of}
 use Rattle.s66_ledger.proofs.NodePrefixes.{prefixes-set}
 use Rattle.s66_ledger.proofs.SeenNodes.{lines-state, at-nodes}

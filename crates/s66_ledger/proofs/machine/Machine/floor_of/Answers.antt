@@ -1,10 +1,9 @@
 use Rattle.std.proofs.Common.{◌≡◌, ◌<◌, ◌∙◌, [], arith, ap, sym, length, get_or}
-use Rattle.s66_model.specs.Leaves.{floor_value}
+use Rattle.s66_model.specs.{floor_value}
 use Rattle.s66_model.specs.LedgerRuns as model
-use Rattle.s66_ledger.specs.LedgerMachine.{MachineOf}
+use Rattle.s66_node.specs.{has_floor}
+use Rattle.s66_ledger.specs.{MachineOf, stored_at, prefixes, name_at, seen_state}
 use Rattle.s66_ledger.proofs.Stored.{stored_of}
-use Rattle.s66_node.specs.Nodes.{has_floor}
-use Rattle.s66_ledger.specs.Nodes.{stored_at, prefixes, name_at, seen_state}
 use Rattle.s66_ledger.proofs.SeenNodes.{length-nodes, at-nodes, out-seen}
 use Rattle.s66_ledger.proofs.machine.Machine.floor_of.Goals as goal
 

@@ -1,5 +1,5 @@
 use Rattle.std.proofs.Common.{◌+◌, ◌-◌, ◌∙◌, arith, sym, subst, set}
-use Rattle.s66_ledger.specs.LedgerMachine.{IsKeptMachine}
+use Rattle.s66_ledger.specs.{IsKeptMachine}
 use Rattle.s66_ledger.proofs.Stored.{stored_of}
 use Rattle.s66_ledger.proofs.NodePrefixes.{get_or-any}
 use Rattle.s66_ledger.proofs.Events.{kept-room, kept-grant, worker-place}

@@ -1,7 +1,6 @@
 use Rattle.std.proofs.Common.{arith, subst}
 use Rattle.std.proofs.lemmas.Bool.{not-true}
-use Rattle.s66_ledger.specs.Finishing.{WholesAreTimed}
-use Rattle.s66_ledger.specs.LedgerMachine.{MachineOf}
+use Rattle.s66_ledger.specs.{WholesAreTimed, MachineOf}
 use Rattle.s66_ledger.proofs.Stored.{stored_of}
 use Rattle.s66_ledger.proofs.WholeOffers.{none-whole}
 use Rattle.s66_ledger.proofs.machine.Machine.has_no_whole.Goals as goal

@@ -1,7 +1,6 @@
 use Rattle.std.proofs.Common.{subst}
 use Rattle.std.proofs.lemmas.Bool.{not-true}
-use Rattle.s66_ledger.specs.Finishing.{NoneOut}
-use Rattle.s66_ledger.specs.LedgerMachine.{MachineOf}
+use Rattle.s66_ledger.specs.{NoneOut, MachineOf}
 use Rattle.s66_ledger.proofs.Stored.{stored_of}
 use Rattle.s66_ledger.proofs.TakingBack.{none-kept-out}
 use Rattle.s66_ledger.proofs.machine.Machine.has_none_out.Goals as goal

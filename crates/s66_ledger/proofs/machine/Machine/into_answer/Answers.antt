@@ -1,9 +1,7 @@
 use Rattle.std.proofs.Common.{◌∙◌, [], ap, sym, subst}
-use Rattle.s66_model.specs.Timing.{Problem}
-use Rattle.s66_model.specs.Ended.{ended_answer}
-use Rattle.s66_ledger.specs.LedgerMachine.{MachineOf, ledger_from}
+use Rattle.s66_model.specs.{Problem, ended_answer}
+use Rattle.s66_ledger.specs.{MachineOf, ledger_from, IsKeptAnswer, ended_of}
 use Rattle.s66_ledger.proofs.Stored.{stored_of}
-use Rattle.s66_ledger.specs.Answers.{IsKeptAnswer, ended_of}
 use Rattle.s66_ledger.proofs.Ends.{kept-answer}
 use Rattle.s66_ledger.proofs.machine.Machine.into_answer.Goals as goal
 

@@ -1,6 +1,6 @@
 use Rattle.std.proofs.Common.{◌↔◌, Bool, true, false, true≢false, IsTrue, refl, sym, subst}
-use Rattle.s66_model.specs.LedgerRuns.{IsOut}
-use Rattle.s66_ledger.specs.LedgerMachine.{MachineOf}
+use Rattle.s66_model.specs.{IsOut}
+use Rattle.s66_ledger.specs.{MachineOf}
 use Rattle.s66_ledger.proofs.Stored.{stored_of}
 use Rattle.s66_ledger.proofs.Events.{is-out, not-out}
 use Rattle.s66_ledger.proofs.machine.Machine.is_out.Goals as goal

@@ -1,9 +1,7 @@
 use Rattle.std.proofs.Common.{◌≡◌, ◌∙◌, arith, ap, [], refl, sym}
-use Rattle.s66_isa.specs.Table.{numbers}
-use Rattle.s66_line.specs.Blocks.{instrs_of}
-use Rattle.s66_model.specs.Timing.{Problem, total_of}
-use Rattle.s66_model.specs.Answer.{source_time}
-use Rattle.s66_model.specs.Leaves.{floor_value}
+use Rattle.s66_isa.specs.{numbers}
+use Rattle.s66_model.specs.{Problem, total_of, source_time, floor_value}
+use Rattle.s66_line.specs.{instrs_of}
 use Rattle.s66_time.specs.TimedOrder.{TimedOrder}
 use Rattle.s66_ledger.proofs.Events.{kept-opening}
 use Rattle.s66_ledger.proofs.machine.Machine.new.Goals as goal

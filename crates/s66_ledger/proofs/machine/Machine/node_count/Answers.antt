@@ -1,5 +1,5 @@
 use Rattle.std.proofs.Common.{◌∙◌, arith, length, ap, sym}
-use Rattle.s66_ledger.specs.LedgerMachine.{MachineOf}
+use Rattle.s66_ledger.specs.{MachineOf}
 use Rattle.s66_ledger.proofs.Stored.{stored_of}
 use Rattle.s66_ledger.proofs.Events.{kept-room}
 use Rattle.s66_ledger.proofs.SeenNodes.{length-nodes, length-lines}

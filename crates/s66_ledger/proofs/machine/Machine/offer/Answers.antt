@@ -1,7 +1,6 @@
 use Rattle.std.proofs.Common.{◌≡◌, ◌∙◌, arith, refl, ap, subst}
-use Rattle.s66_model.specs.Timing.{Problem, total_of}
-use Rattle.s66_model.specs.LegalOrder.{IsLegal}
-use Rattle.s66_ledger.specs.LedgerMachine.{MachineOf}
+use Rattle.s66_model.specs.{Problem, total_of, IsLegal}
+use Rattle.s66_ledger.specs.{MachineOf}
 use Rattle.s66_ledger.proofs.Stored.{stored_of}
 use Rattle.s66_ledger.proofs.Events.{kept-lower, event-lower, event-not-lower, event-other}
 use Rattle.s66_ledger.proofs.machine.Machine.offer.Goals as goal

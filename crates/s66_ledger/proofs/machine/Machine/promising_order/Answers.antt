@@ -1,14 +1,13 @@
 use Rattle.std.proofs.Common.{rules, inl, inr, ◌≢◌, ◌<◌, ◌∙◌, [], arith, length, get_or, true≢false, ap, sym, subst}
-use Rattle.s66_model.specs.LegalOrder.{IsBeginning}
+use Rattle.s66_model.specs.{IsBeginning}
 use Rattle.s66_model.specs.LedgerRuns as model
-use Rattle.s66_ledger.specs.Nodes.{prefixes}
-use Rattle.s66_ledger.specs.LedgerMachine.{MachineOf}
+use Rattle.s66_ledger.specs.{prefixes, MachineOf}
 use Rattle.s66_ledger.proofs.Stored.{stored_of}
 use Rattle.s66_ledger.proofs.SeenNodes.{length-nodes, at-nodes}
 use Rattle.s66_ledger.proofs.Events.{kept-short, kept-beginning}
 use Rattle.s66_ledger.proofs.WholeOffers.{not-below}
-use Rattle.s66_ledger.proofs.machine.Machine.promising_order.Goals as goal
 use Rattle.s66_ledger.proofs.machine.Machine.promising_order.Goals.{else-is_live_below-via-then-is_live_below+else-has_length, else-is_live_below-via-else-is_live_below}
+use Rattle.s66_ledger.proofs.machine.Machine.promising_order.Goals as goal
 
 pub is_live_below-requires : goal.is_live_below-requires
 is_live_below-requires c =

@@ -1,7 +1,6 @@
 use Rattle.std.proofs.Common.{◌+◌, ◌-◌, ◌∙◌, set, sym, arith, subst}
-use Rattle.s66_ledger.specs.LedgerMachine.{machine_of, IsKeptMachine}
+use Rattle.s66_ledger.specs.{machine_of, IsKeptMachine, IsTakenMove}
 use Rattle.s66_ledger.proofs.Stored.{stored_of}
-use Rattle.s66_ledger.specs.GraftMoves.{IsTakenMove}
 use Rattle.s66_ledger.proofs.NodePrefixes.{get_or-any}
 use Rattle.s66_ledger.proofs.Events.{worker-place, kept-room}
 use Rattle.s66_ledger.proofs.GraftSteps.{out-stored, over-stored, piece-floors, within, piece-room, graft-taken, kept-taken}

@@ -1,5 +1,5 @@
 use Rattle.std.proofs.Common.{◌<◌, ◌≡◌, ◌+◌, ◌-◌, ◌∙◌, arith, length, ap, sym, subst, get_or, set}
-use Rattle.s66_ledger.specs.LedgerMachine.{MachineOf, IsKeptMachine}
+use Rattle.s66_ledger.specs.{MachineOf, IsKeptMachine}
 use Rattle.s66_ledger.proofs.Stored.{stored_of}
 use Rattle.s66_ledger.proofs.NodePrefixes.{get_or-any}
 use Rattle.s66_ledger.proofs.Events.{kept-room, kept-retire}

@@ -1,13 +1,9 @@
 use Rattle.std.proofs.Common.{true, ◌-◌, ◌≡◌, ◌∙◌, ◌∷◌, List, ap, arith, refl, sym, subst, length, map, heap_items}
 use Rattle.std.proofs.lemmas.Result.{on_ok_weaker}
 use Rattle.std.proofs.lemmas.List.{length-map}
-use Rattle.s66_node.specs.declared.node.Node.{Node}
+use Rattle.s66_node.specs.{Node, is_stored_open, Named, named}
 use Rattle.s66_node.specs.declared.node.State.TheVariants as state
-use Rattle.s66_node.specs.Nodes.{is_stored_open, Named, named}
-use Rattle.s66_ledger.specs.OpenNodes.{StoresOut, AreOpenNodes}
-use Rattle.s66_ledger.specs.LiveNodes.{AreCounted}
-use Rattle.s66_ledger.specs.Nodes.{no_stored, stored_at, put_state, is_stored_out, HaveDepths}
-use Rattle.s66_ledger.specs.Grafting.{settled_state, IsGrafting, IsSplitUnder, IsAttachedAs, HaveNames}
+use Rattle.s66_ledger.specs.{StoresOut, AreOpenNodes, AreCounted, no_stored, stored_at, put_state, is_stored_out, HaveDepths, settled_state, IsGrafting, IsSplitUnder, IsAttachedAs, HaveNames}
 use Rattle.s66_ledger.proofs.Attached.{grafting-depths, attached-split, not-open, attached-alone}
 use Rattle.s66_ledger.proofs.Grafting.{below-names}
 use Rattle.s66_ledger.proofs.Depths.{depths-state}

@@ -1,11 +1,8 @@
 use Rattle.std.proofs.Common.{◌-◌, true, arith, ap, refl, sym, subst, heap_items, map}
 use Rattle.s66_node.specs.declared.node.State.TheVariants as state
-use Rattle.s66_node.specs.Nodes.{named}
-use Rattle.s66_ledger.specs.Nodes.{no_stored, stored_at, HaveDepths, is_stored_out}
-use Rattle.s66_ledger.specs.OpenNodes.{AreOpenNodes, StoresOut}
-use Rattle.s66_ledger.specs.Grafting.{IsGrafting}
+use Rattle.s66_node.specs.{named}
+use Rattle.s66_ledger.specs.{no_stored, stored_at, HaveDepths, is_stored_out, AreOpenNodes, StoresOut, IsGrafting, AreCounted}
 use Rattle.s66_ledger.proofs.Grafting.{grafting-out}
-use Rattle.s66_ledger.specs.LiveNodes.{AreCounted}
 use Rattle.s66_ledger.proofs.Depths.{depths-state}
 use Rattle.s66_ledger.proofs.LiveCounts.{counted-set, some-out, one}
 use Rattle.s66_ledger.proofs.OpenHeap.{still-shut, out-shut}

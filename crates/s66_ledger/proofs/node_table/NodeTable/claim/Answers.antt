@@ -1,11 +1,8 @@
-use Rattle.std.proofs.Common.{ℕ, true, false, ◌≡◌, ◌≤◌, ◌∙◌, ap, arith, refl, subst, heap_items}
+use Rattle.std.proofs.Common.{ℕ, true, false, ◌≡◌, ◌≤◌, ◌∙◌, ap, arith, refl, subst, heap_items, nat_cmp}
 use Rattle.std.proofs.lemmas.List.Sorted.{first_le_from_greatest}
-use Rattle.std.specs.Ordering.{nat_cmp}
-use Rattle.s66_node.specs.declared.node.Node.{Node}
+use Rattle.s66_node.specs.{Node, is_stored_live}
 use Rattle.s66_node.specs.declared.node.State.TheVariants as state
-use Rattle.s66_node.specs.Nodes.{is_stored_live}
-use Rattle.s66_ledger.specs.Nodes.{no_stored, stored_at, stores_open, is_stored_out}
-use Rattle.s66_ledger.specs.OpenNodes.{ranked}
+use Rattle.s66_ledger.specs.{no_stored, stored_at, stores_open, is_stored_out, ranked}
 use Rattle.s66_ledger.proofs.Depths.{depths-set}
 use Rattle.s66_ledger.proofs.LiveCounts.{counted-set, room-out, one}
 use Rattle.s66_ledger.proofs.NodePrefixes.{get_or-any}

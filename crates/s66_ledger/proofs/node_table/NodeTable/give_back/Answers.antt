@@ -1,10 +1,7 @@
-use Rattle.std.proofs.Common.{◌≡◌, ◌<◌, true, arith, length, ◌∙◌, ◌∷◌, ap, refl, sym, subst, heap_items}
-use Rattle.std.specs.List.Sorted.{IsPermutation}
-use Rattle.s66_node.specs.declared.node.Node.{Node}
+use Rattle.std.proofs.Common.{◌≡◌, ◌<◌, true, arith, length, ◌∙◌, ◌∷◌, ap, refl, sym, subst, heap_items, IsPermutation}
+use Rattle.s66_node.specs.{Node, is_stored_live}
 use Rattle.s66_node.specs.declared.node.State.TheVariants as state
-use Rattle.s66_node.specs.Nodes.{is_stored_live}
-use Rattle.s66_ledger.specs.Nodes.{no_stored, stored_at, is_stored_out}
-use Rattle.s66_ledger.specs.OpenNodes.{rank_of}
+use Rattle.s66_ledger.specs.{no_stored, stored_at, is_stored_out, rank_of}
 use Rattle.s66_ledger.proofs.Depths.{depths-set}
 use Rattle.s66_ledger.proofs.LiveCounts.{counted-set, some-out, one}
 use Rattle.s66_ledger.proofs.NodePrefixes.{get_or-any}

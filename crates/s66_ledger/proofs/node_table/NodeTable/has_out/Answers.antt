@@ -1,6 +1,6 @@
-use Rattle.std.proofs.Common.{ℕ, ◌∙◌, nat_eq, subst}
-use Rattle.std.proofs.lemmas.Bool.{not-false, eqb-true}
-use Rattle.s66_ledger.specs.OpenNodes.{StoresOut}
+use Rattle.std.proofs.Common.{ℕ, ◌∙◌, nat_eq, subst, eqb-true}
+use Rattle.std.proofs.lemmas.Bool.{not-false}
+use Rattle.s66_ledger.specs.{StoresOut}
 use Rattle.s66_ledger.proofs.LiveCounts.{none-out}
 use Rattle.s66_ledger.proofs.node_table.NodeTable.has_out.Goals as goal
 

@@ -1,9 +1,6 @@
-use Rattle.std.proofs.Common.{List, ◌≡◌, ◌∙◌, ◌∷◌, ◌++◌, [], ap, sym, subst, heap_items}
-use Rattle.std.specs.List.Sorted.{IsPermutation}
-use Rattle.s66_node.specs.declared.node.Node.{Node}
-use Rattle.s66_ledger.specs.Nodes.{HaveDepths}
-use Rattle.s66_ledger.specs.OpenNodes.{AreOpenNodes, rank_of}
-use Rattle.s66_ledger.specs.LiveNodes.{AreCounted}
+use Rattle.std.proofs.Common.{List, ◌≡◌, ◌∙◌, ◌∷◌, ◌++◌, [], ap, sym, subst, heap_items, IsPermutation}
+use Rattle.s66_node.specs.{Node}
+use Rattle.s66_ledger.specs.{HaveDepths, AreOpenNodes, rank_of, AreCounted}
 use Rattle.s66_ledger.proofs.Depths.{depths-first}
 use Rattle.s66_ledger.proofs.LiveCounts.{counted-first}
 use Rattle.s66_ledger.proofs.OpenHeap.{first-open}
