@@ -1,12 +1,11 @@
 -- Seat records at a lock: how many are a worker's, and which agree with the summary of what is under it.
-use Rattle.std.proofs.Common.{◌≡◌, ◌≢◌, ℕ, zero, suc, ◌+◌, ◌<◌, ◌≤◌, cond, List, [], ◌∷◌, length, map, All, refl, ap, ◌∙◌, arith}
 use mathlib.Core.Logic.{dite}
 use native.Mathlib.Decide.{ℕ_discrete}
-use Rattle.std.proofs.lemmas.Bool.{eq-eqb, ne_eqb}
+use Rattle.std.proofs.Common.{◌≡◌, ◌≢◌, ℕ, zero, suc, ◌+◌, ◌<◌, ◌≤◌, cond, List, [], ◌∷◌, length, map, All, refl, ap, ◌∙◌, arith, eq-eqb, ne_eqb}
 use Rattle.std.proofs.lemmas.List.Elements.{All-nil, All-cons, All-head, All-tail}
-use Rattle.s66_isa.specs.Lists.{rising}
-use Rattle.s66_model.specs.Accounts.{Summary, SeatRecord, Agrees, opened}
-use Rattle.s66_share.specs.SeatViews.{books_of, all_opened, first_of, rest_of, MayBecome}
+use Rattle.s66_isa.specs.{rising}
+use Rattle.s66_model.specs.{Summary, SeatRecord, Agrees, opened}
+use Rattle.s66_share.specs.{books_of, all_opened, first_of, rest_of, MayBecome}
 
 counted : (n : ℕ) (p : SeatRecord) (ps : List SeatRecord) → p.who ≡ n → books_of n (p ∷ ps) ≡ 1 + books_of n ps
 counted n p ps e = ap (λ b. cond b 1 0 + books_of n ps) (eq-eqb p.who n e)

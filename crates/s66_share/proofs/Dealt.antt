@@ -2,9 +2,8 @@
 use Rattle.std.proofs.Common.{◌≡◌, ℕ, ◌<◌, List, [], ◌∷◌, length, Option, sym, refl, ap, ◌∙◌, arith}
 use Rattle.atomic_table.specs.Table.{Me}
 use Rattle.atomic_table.specs.declared.shared.Seat.{Seat}
-use Rattle.s66_model.specs.Accounts.{SeatRecord}
-use Rattle.s66_share.specs.SeatViews.{View, idle, first_of, rest_of, first_book}
-use Rattle.s66_share.specs.LockTokens.{book, IsResting}
+use Rattle.s66_model.specs.{SeatRecord}
+use Rattle.s66_share.specs.{View, idle, first_of, rest_of, first_book, book, IsResting}
 
 first_one : (ps : List SeatRecord) → 0 < length ps → first_of ps ≡ first_book ps ∷ []
 first_one [] h = absurd (omega arith)

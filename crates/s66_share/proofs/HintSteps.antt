@@ -1,10 +1,10 @@
 -- Each step of a hint keeps its rule: to read it, to lower it, and to copy a seat.
-use Rattle.std.proofs.Common.{◌≡◌, ℕ, ◌≤◌, List, [], ◌∷◌, ◌++◌, set, get_or, min, sym, refl, ap, subst, arith}
 use mathlib.Core.Option.{some}
 use lib.ListN.{get_elem?}
+use Rattle.std.proofs.Common.{◌≡◌, ℕ, ◌≤◌, List, [], ◌∷◌, ◌++◌, set, get_or, min, sym, refl, ap, subst, arith}
 use Rattle.atomic_table.specs.Table.{State, Me, keeps, Allows, Splits, opening}
 use Rattle.atomic_table.proofs.Lists.{set_here, set_again, at_longer}
-use Rattle.s66_share.specs.Hints.{IsLowest}
+use Rattle.s66_share.specs.{IsLowest}
 use Rattle.s66_share.proofs.Seats.{inside, each-set, each-snoc, each-one}
 
 -- the word becomes one that isn't above it, which the seat then keeps

@@ -1,13 +1,13 @@
 -- Each step of a lane keeps its rule: to put and to take tickets, to deal and to collect passes, and what is learnt from a count.
-use Rattle.std.proofs.Common.{◌≡◌, ◌≢◌, ℕ, zero, suc, ◌+◌, ◌≤◌, List, [], ◌∷◌, ◌++◌, set, sym, refl, ap, subst, ⊎_elim, arith}
 use mathlib.Core.Option.{some, some-injective, some-ne-none}
 use lib.ListN.{get_elem?}
+use Rattle.std.proofs.Common.{◌≡◌, ◌≢◌, ℕ, zero, suc, ◌+◌, ◌≤◌, List, [], ◌∷◌, ◌++◌, set, sym, refl, ap, subst, ⊎_elim, arith}
 use Rattle.crossbeam_deque.specs.Tasks.{Pushes, Takes, Forks, Merges, Learns}
 use Rattle.crossbeam_deque.proofs.Lists.{at_set}
-use Rattle.s66_isa.specs.Lists.{weigh}
+use Rattle.s66_isa.specs.{weigh}
 use Rattle.s66_isa.proofs.Lists.{weigh-append}
-use Rattle.s66_model.specs.Tickets.{TicketOf}
-use Rattle.s66_share.specs.Hands.{Hand, new_hand, spent_hand, one_part_less, joined_hands, HoldsNothing, Balanced, HasPut, HasTaken, HasPartsAtMost, IsSettled}
+use Rattle.s66_model.specs.{TicketOf}
+use Rattle.s66_share.specs.{Hand, new_hand, spent_hand, one_part_less, joined_hands, HoldsNothing, Balanced, HasPut, HasTaken, HasPartsAtMost, IsSettled}
 
 weigh-at : {X : Type 0} (f : X → ℕ) (xs : List X) (i : ℕ) (v w : X) → get_elem? xs i ≡ some v → weigh f (set xs i w) + f v ≡ weigh f xs + f w
 weigh-at f [] i v w e = absurd (some-ne-none v (sym e))

@@ -1,10 +1,10 @@
 -- The passes that a lane deals to thieves, one after the other, are all it has.
-use Rattle.std.proofs.Common.{◌≡◌, ℕ, ◌+◌, List, [], ◌∷◌, ◌++◌, length, map, All, add-one, sym, refl, ap, subst, ◌∙◌, arith, rules}
-use Rattle.std.proofs.lemmas.List.{map-append, length-append}
+use Rattle.std.proofs.Common.{◌≡◌, ℕ, ◌+◌, List, [], ◌∷◌, ◌++◌, length, map, All, add-one, sym, refl, ap, subst, ◌∙◌, arith, rules, length-append}
+use Rattle.std.proofs.lemmas.List.{map-append}
 use Rattle.std.proofs.lemmas.List.Elements.{All-append, All-nil}
-use Rattle.s66_isa.specs.Lists.{rising}
+use Rattle.s66_isa.specs.{rising}
 use Rattle.s66_model.proofs.Beginnings.{rising-push}
-use Rattle.s66_share.specs.Lanes.{LaneId, PassOf}
+use Rattle.s66_share.specs.{LaneId, PassOf}
 
 -- a lane's first passes, which have taken nothing
 pub record AreDealt (lane : LaneId) (n : ℕ) (passes : List PassOf) : Type 0 where

@@ -1,9 +1,9 @@
 -- The views of a shared table's seats: what holds of each, and sums over them.
-use Rattle.std.proofs.Common.{◌≡◌, ◌≢◌, ℕ, zero, suc, ◌+◌, ◌<◌, ◌≤◌, List, [], ◌∷◌, ◌++◌, length, set, get_or, sym, refl, ap, subst, ⊎_elim, arith}
 use mathlib.Core.Option.{some, some-injective, some-ne-none}
 use lib.ListN.{get_elem?}
+use Rattle.std.proofs.Common.{◌≡◌, ◌≢◌, ℕ, zero, suc, ◌+◌, ◌<◌, ◌≤◌, List, [], ◌∷◌, ◌++◌, length, set, get_or, sym, refl, ap, subst, ⊎_elim, arith}
 use Rattle.atomic_table.proofs.Lists.{at_set, at_snoc}
-use Rattle.s66_isa.specs.Lists.{weigh}
+use Rattle.s66_isa.specs.{weigh}
 use Rattle.s66_isa.proofs.Lists.{weigh-set}
 
 abbrev pub EachAt : {A : Type 0} → (ℕ → A → Type 0) → List A → Type 0

@@ -1,13 +1,13 @@
 -- Sums over the seat records of workers, each of whom has one.
-use Rattle.std.proofs.Common.{◌≡◌, ◌≢◌, ℕ, zero, suc, ◌+◌, ◌-◌, ◌<◌, ◌≤◌, cond, eqb, List, [], ◌∷◌, length, get_or, All, sym, refl, ap, ◌∙◌, arith}
 use mathlib.Core.Logic.{dite}
 use native.Mathlib.Decide.{ℕ_discrete}
-use Rattle.std.proofs.lemmas.Bool.{eq-eqb, ne_eqb, cond-true, cond-false}
+use Rattle.std.proofs.Common.{◌≡◌, ◌≢◌, ℕ, zero, suc, ◌+◌, ◌-◌, ◌<◌, ◌≤◌, cond, eqb, List, [], ◌∷◌, length, get_or, All, sym, refl, ap, ◌∙◌, arith, eq-eqb, ne_eqb}
+use Rattle.std.proofs.lemmas.Bool.{cond-true, cond-false}
 use Rattle.std.proofs.lemmas.List.Elements.{All-head, All-tail}
-use Rattle.s66_isa.specs.Lists.{weigh, rising}
+use Rattle.s66_isa.specs.{weigh, rising}
 use Rattle.s66_isa.proofs.Lists.{weigh-same, among-rising}
-use Rattle.s66_model.specs.Accounts.{Summary, SeatRecord, Account, Agrees, account_at, no_account}
-use Rattle.s66_share.specs.SeatViews.{books_of}
+use Rattle.s66_model.specs.{Summary, SeatRecord, Account, Agrees, account_at, no_account}
+use Rattle.s66_share.specs.{books_of}
 
 none-of : (f : ℕ → ℕ) (k count low : ℕ) → k < low → weigh (λ w. cond (eqb k w) (f w) 0) (rising count low) ≡ 0
 none-of f k zero low h = refl

@@ -1,19 +1,19 @@
 -- Each step of the lock of `src/lock.rt` keeps its rule: to take and to give, to found and to settle, to deal and to collect tokens.
-use Rattle.std.proofs.Common.{◌≡◌, ◌≢◌, ℕ, ◌+◌, ◌<◌, ◌≤◌, inl, inr, eqb, List, [], ◌∷◌, ◌++◌, length, set, get_or, All, Option, Some, None, sym, refl, ap, ◌∙◌, subst, ⊎_elim, arith}
 use mathlib.Core.Option.{some, some-injective}
 use mathlib.Core.Option as maybe
 use mathlib.Core.Logic.{dite}
 use native.Mathlib.Decide.{ℕ_discrete}
 use prog.Atomic.{either}
 use lib.ListN.{get_elem?}
+use Rattle.std.proofs.Common.{◌≡◌, ◌≢◌, ℕ, ◌+◌, ◌<◌, ◌≤◌, inl, inr, eqb, List, [], ◌∷◌, ◌++◌, length, set, get_or, All, Option, Some, None, sym, refl, ap, ◌∙◌, subst, ⊎_elim, arith}
 use Rattle.std.proofs.lemmas.List.Elements.{All-nil, All-cons, All-append}
 use Rattle.atomic_table.specs.Table.{State, Me, keeps, takes, gives, Allows, Splits, Joins, Final, Seen, opening, rest}
 use Rattle.atomic_table.proofs.Lists.{at_set, set_here, set_else, set_again, at_longer}
 use Rattle.s66_isa.proofs.Lists.{weigh-append, tally-append}
-use Rattle.s66_model.specs.Accounts.{Summary, SeatRecord, Agrees, opened}
-use Rattle.s66_share.specs.SeatViews.{View, Stage, Idle, Founding, Holding, idle, holding, founding, first_of, rest_of, books_of, found_at, first_book, renewed, SummaryGoesOn, MayBecome}
-use Rattle.s66_share.specs.LockTokens.{HaveEvery}
-use Rattle.s66_share.specs.Locked.{AllAgree, IsOnce, Has, IsFree, IsLockHeld, Locked, keep_least, read_best, keep_books, GaveFirst, FoundedAt}
+use Rattle.s66_model.specs.{Summary, SeatRecord, Agrees, opened}
+use Rattle.s66_share.specs.{View, Stage, Idle, Founding, Holding, idle, holding, founding, first_of, rest_of, books_of, found_at, first_book, renewed, SummaryGoesOn, MayBecome, HaveEvery, AllAgree}
+use Rattle.s66_share.specs.{IsOnce, Has, IsFree, IsLockHeld, keep_least, read_best, keep_books, GaveFirst, FoundedAt}
+use Rattle.s66_share.specs.Locked.{Locked}
 use Rattle.s66_share.proofs.Seats.{inside, each-set, each-snoc, each-one, weigh-replaced, le-weigh_at, two-le-weigh, one_item}
 use Rattle.s66_share.proofs.Books.{own, cut, rest-agree, first-agree, others-agree, opened_once, opened-agrees, opened-agree, some_opened, has_book}
 

@@ -1,9 +1,9 @@
 -- Used by contracts within the crate alone: what the owner of a lane and each pass at it have put and taken, and the rule that all steps of a lane keep.
-use Rattle.std.specs.Prelude.{ℕ, ◌≡◌, ◌+◌, ◌-◌, ◌≤◌, List, [], ◌++◌}
 use mathlib.Core.Option.{some}
 use lib.ListN.{get_elem?}
-use Rattle.s66_isa.specs.Lists.{weigh}
-use Rattle.s66_model.specs.Tickets.{TicketOf}
+use Rattle.std.specs.Prelude.{ℕ, ◌≡◌, ◌+◌, ◌-◌, ◌≤◌, List, [], ◌++◌}
+use Rattle.s66_isa.specs.{weigh}
+use Rattle.s66_model.specs.{TicketOf}
 
 -- what the owner or a pass has put and taken, and how many parts it has of the right to know the whole
 pub record Hand : Type 0 where

@@ -2,8 +2,8 @@
 use Rattle.std.specs.Prelude.{ℕ, ◌≡◌, ◌+◌, List}
 use Rattle.std.specs.declared.alloc.Global.{Global}
 use Rattle.atomic_blocks.specs.Lent.{RowsId}
-use Rattle.s66_isa.specs.Lists.{weigh}
-use Rattle.s66_model.specs.Tickets.{TicketOf}
+use Rattle.s66_isa.specs.{weigh}
+use Rattle.s66_model.specs.{TicketOf}
 
 -- which lane it is; of a thief this is all that is seen
 abbrev pub LaneId : Type 0

@@ -2,7 +2,7 @@
 -- there.
 use Rattle.std.specs.Prelude.{ℕ, ◌≡◌, ◌≤◌, List, [], ◌∷◌, None, Option}
 use Rattle.atomic_table.specs.declared.shared.Seat.{Seat}
-use Rattle.s66_model.specs.Accounts.{Summary, SeatRecord}
+use Rattle.s66_model.specs.{Summary, SeatRecord}
 use Rattle.s66_share.specs.SeatViews.{View, found_at, first_book, idle, holding, books_of}
 
 module _ {X : Type 0} where

@@ -1,12 +1,12 @@
 -- Used by contracts within the crate alone: the rule of the lock, and what is learnt from each of its steps. The lock's word is 0
 -- while the value is in its slot, and else 1.
-use Rattle.std.specs.Prelude.{ℕ, ⊤, ◌≡◌, ◌≢◌, ◌<◌, ◌≤◌, ◌⊎◌, List, [], ◌∷◌, length, map, All, Option, Some, None}
 use mathlib.Core.Option.{some}
 use mathlib.Core.Option as maybe
 use lib.ListN.{get_elem?}
+use Rattle.std.specs.Prelude.{ℕ, ⊤, ◌≡◌, ◌≢◌, ◌<◌, ◌≤◌, ◌⊎◌, List, [], ◌∷◌, length, map, All, Option, Some, None}
 use Rattle.atomic_table.specs.Table.{State, Me, Step}
-use Rattle.s66_isa.specs.Lists.{weigh}
-use Rattle.s66_model.specs.Accounts.{Summary, SeatRecord, Agrees, opened}
+use Rattle.s66_isa.specs.{weigh}
+use Rattle.s66_model.specs.{Summary, SeatRecord, Agrees, opened}
 use Rattle.s66_share.specs.SeatViews.{View, Stage, Idle, Founding, Holding, books_of, idle, holding, renewed, SummaryGoesOn}
 
 abbrev pub AllAgree : Summary → List View → Type 0

@@ -1,9 +1,7 @@
 -- Used by contracts: what a token of the lock knows of the value under it.
 use Rattle.std.specs.Prelude.{ℕ, ◌≡◌, ◌≢◌, ◌≤◌, ◌==◌, List, [], ◌∷◌, length, map}
-use Rattle.s66_isa.specs.Lists.{tally, rising}
-use Rattle.s66_isa.specs.Table.{standard}
-use Rattle.s66_model.specs.declared.rule.Rule.TheVariants.{NoneNamed}
-use Rattle.s66_model.specs.Accounts.{Summary, SeatRecord, Agrees, opened}
+use Rattle.s66_isa.specs.{tally, rising, standard}
+use Rattle.s66_model.specs.{NoneNamed, Summary, SeatRecord, Agrees, opened}
 
 -- whether the seat has the lock
 pub data Stage : Type 0 where

@@ -1,5 +1,8 @@
 //! The best time of a search as a word that is read without the lock, and only goes down. It is the least of what the seats at it keep.
 
+ghost use Rattle.std.specs.Prelude.{◌≡◌, ◌<◌, ◌^◌, ◌≤◌, All, length, min, IfOk};
+ghost use Rattle.atomic_table.specs.Seated.{TableId};
+
 use atomic_table::{Play, Seat, Split, Table, TableRule};
 use std::alloc::{AllocError, Global};
 use std::marker::Model;
@@ -49,9 +52,6 @@ pub struct Hint {
 }
 
 impl Model for Hint {
-    ghost use Rattle.std.specs.Prelude.{◌≡◌};
-    ghost use Rattle.atomic_table.specs.Seated.{TableId};
-
     ghost Value = { TableId };
 
     ghost view = { λ h. h.table.shared.table_id };
@@ -79,8 +79,6 @@ impl Model for HintSeat {
 }
 
 impl HintSeat {
-    ghost use Rattle.std.specs.Prelude.{◌≡◌, ◌<◌, ◌^◌};
-
     fn new(number: usize, token: Seat<(), u64>) -> HintSeat
         requires { token.me.0 < 2 ^ 32 }
         ensures { result ≡ record { hint = token.table_id; kept = token.me.0 } }
@@ -90,8 +88,6 @@ impl HintSeat {
 }
 
 impl Hint {
-    ghost use Rattle.std.specs.Prelude.{◌≡◌, ◌≤◌, All, length, min, IfOk};
-
     /// A hint, and a seat for each worker. All keep this word.
     pub fn new(
         alloc: Global,

@@ -104,9 +104,8 @@ impl Join<View> for Collects {
 
 impl<S: Summed + Drop> Lock<S> {
     ghost use Rattle.std.specs.Prelude.{◌≡◌, ℕ, ◌<◌, ◌≤◌, [], ◌∷◌, ◌++◌, length, All, IfOk, None};
-    ghost use Rattle.s66_model.specs.Accounts.{Agrees, opened};
-    ghost use Rattle.s66_share.specs.SeatViews.{SummaryGoesOn, MayBecome, all_opened, books_of, renewed, idle, holding, first_of, rest_of, first_book};
-    ghost use Rattle.s66_share.specs.LockTokens.{book, found, IsResting, IsHolding, IsIdle, HaveEvery};
+    ghost use Rattle.s66_model.specs.{Agrees, opened};
+    ghost use Rattle.s66_share.specs.{SummaryGoesOn, MayBecome, all_opened, books_of, renewed, idle, holding, first_of, rest_of, first_book, book, found, IsResting, IsHolding, IsIdle, HaveEvery};
 
     /// Waits until the lock is free, and takes the value.
     pub fn take<R: Wait>(&self, rt: &R, token: &mut Token<S>) -> S

@@ -1,7 +1,7 @@
 //! Makes a lane: its owner's end, and what others steal with.
 
 ghost use Rattle.std.specs.Prelude.{◌≡◌, ◌≤◌, [], IfOk};
-ghost use Rattle.s66_share.specs.declared.limits.TheConstants.{CAPACITY_LIMIT};
+ghost use Rattle.s66_share.specs.{CAPACITY_LIMIT};
 
 use crate::lanes::owner::Lane;
 use crate::lanes::protocol::{Hand, Rule};

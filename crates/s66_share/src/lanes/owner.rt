@@ -35,11 +35,9 @@ impl Model for Lane {
 impl Lane {
     ghost use Rattle.std.specs.Prelude.{◌≡◌, ◌+◌, ◌≤◌, List, [], ◌∷◌, ◌++◌, length, map, All, IfOk, OnErr, IfErr, OnOk, IfSome, IfNone};
     ghost use Rattle.crossbeam_deque.specs.Handles.{worker_deque, worker_flavor, worker_view, worker_index, worker_capacity};
-    ghost use Rattle.s66_isa.specs.Lists.{rising};
-    ghost use Rattle.s66_model.specs.Tickets.{TicketOf};
-    ghost use Rattle.s66_share.specs.declared.limits.TheConstants.{PASS_LIMIT};
-    ghost use Rattle.s66_share.specs.Hands.{opening_hand};
-    ghost use Rattle.s66_share.specs.Lanes.{AreLeft};
+    ghost use Rattle.s66_isa.specs.{rising};
+    ghost use Rattle.s66_model.specs.{TicketOf};
+    ghost use Rattle.s66_share.specs.{PASS_LIMIT, opening_hand, AreLeft};
 
     pub(crate) fn new(alloc: Global, owner: Worker<Ticket, Global, Hand, Rule>) -> Lane
         requires { (worker_flavor owner ≡ 0) × (worker_view owner ≡ opening_hand) }

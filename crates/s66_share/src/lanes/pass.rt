@@ -29,7 +29,7 @@ impl Model for Pass {
 impl Pass {
     ghost use Rattle.std.specs.Prelude.{◌≡◌, [], None};
     ghost use Rattle.crossbeam_deque.specs.Handles.{view};
-    ghost use Rattle.s66_share.specs.Hands.{new_hand};
+    ghost use Rattle.s66_share.specs.{new_hand};
 
     pub(crate) fn new(number: u8, token: crossbeam_deque::Pass<Ticket, Hand>) -> Pass
         requires empty { (token.me.hand ≡ None) × (token.me.spare ≡ None) }

@@ -1,5 +1,8 @@
 //! What others steal with from a worker's lane (`Thief`): each try takes the first ticket, or nothing.
 
+ghost use Rattle.std.specs.Prelude.{◌≡◌, [], ◌∷◌, ◌++◌, IfSome, IfNone};
+ghost use Rattle.crossbeam_deque.specs.Handles.{stealer_deque};
+
 use crate::lanes::pass::Pass;
 use crate::lanes::protocol::{Hand, Rule, Takes};
 use crossbeam_deque::{Steal, Stealer};
@@ -23,9 +26,6 @@ impl Model for Thief {
 }
 
 impl Thief {
-    ghost use Rattle.std.specs.Prelude.{◌≡◌, [], ◌∷◌, ◌++◌, IfSome, IfNone};
-    ghost use Rattle.crossbeam_deque.specs.Handles.{stealer_deque};
-
     pub(crate) fn new(stealer: Stealer<Ticket, Global, Hand, Rule>) -> Thief
         ensures { result ≡ stealer_deque stealer }
     {

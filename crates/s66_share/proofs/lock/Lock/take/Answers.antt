@@ -1,6 +1,6 @@
 use Rattle.std.proofs.Common.{rules, ◌≡◌, length, ◌∷◌, Some, ap, sym, ◌∙◌, arith}
 use Rattle.atomic_table.specs.Table.{rest}
-use Rattle.s66_share.specs.SeatViews.{Idle}
+use Rattle.s66_share.specs.{Idle}
 use Rattle.s66_share.proofs.Turns.{takes_it}
 use Rattle.s66_share.proofs.lock.Lock.take.Goals as goal
 

@@ -1,6 +1,6 @@
 use Rattle.std.proofs.Common.{◌≡◌, ◌+◌, ◌≤◌, vec_capacity}
 use Rattle.crossbeam_deque.specs.Handles.{worker_deque, worker_flavor, worker_view, worker_index, worker_capacity}
-use Rattle.s66_share.specs.Hands.{PARTS}
+use Rattle.s66_share.specs.{PARTS}
 use Rattle.s66_share.proofs.Passes.{AreDealt}
 use Rattle.s66_share.proofs.lanes.owner.Lane.passes.Given as goal
 
