@@ -2,29 +2,19 @@
 use Rattle.std.proofs.Common.{◌≡◌, ℕ, ◌+◌, ◌-◌, ◌<◌, ◌≤◌, zero, suc, Bool, List, [], ◌∷◌, length, get_or, Result, Ok, Err, Option, None, IfOk, IfErr, sym, refl, ap, ◌∙◌, subst, arith}
 use Rattle.atomic_table.specs.Table.{Me}
 use Rattle.atomic_table.specs.Seated.{TableId}
-use Rattle.s66_isa.specs.Lists.{weigh}
+use Rattle.s66_isa.specs.{weigh}
 use Rattle.s66_model.specs.LedgerRuns as model
-use Rattle.s66_model.specs.LedgerRuns.{Event, Reply, Back, Returned, NotOut, Offer, worker}
-use Rattle.s66_model.specs.Recorded.{IsGraftOf, IsOfferOf, IsOwn, IsOwnPiece, TreeOpens, graft_event, spends}
-use Rattle.s66_model.specs.declared.rule.Rule.{Rule}
-use Rattle.s66_model.specs.Timing.{Problem, total_of}
-use Rattle.s66_model.specs.Trees.{Tree, splits}
-use Rattle.s66_model.specs.Piece.{Terminal}
-use Rattle.s66_model.specs.Accounts.{Summary, SeatRecord, Account, Agrees, opened, account_at, after_event, least_after, no_account}
-use Rattle.s66_node.specs.Pieces.{PieceOf, tree_of}
-use Rattle.s66_ledger.specs.Ledgers.{LedgerOf, IsEvent, account_summary}
-use Rattle.s66_ledger.specs.Grafts.{IsGraft, IsRefusedGraft}
+use Rattle.s66_model.specs.{Event, Reply, Back, Returned, NotOut, Offer, worker, IsGraftOf, IsOfferOf, IsOwn, IsOwnPiece, TreeOpens, graft_event, spends, Rule, Problem, total_of, Tree, splits}
+use Rattle.s66_model.specs.{Terminal, Summary, SeatRecord, Account, Agrees, opened, account_at, after_event, least_after, no_account}
 use Rattle.s66_time.specs.TimedOrder.{TimedOrder}
-use Rattle.s66_ledger.specs.declared.reply.Offered.{Offered}
+use Rattle.s66_node.specs.{PieceOf, tree_of}
+use Rattle.s66_ledger.specs.{LedgerOf, IsEvent, account_summary, IsGraft, IsRefusedGraft, Offered, offered_reply, GraftError, BackError}
 use Rattle.s66_ledger.specs.declared.reply.Offered.TheVariants as offered
-use Rattle.s66_ledger.specs.Replies.{offered_reply}
-use Rattle.s66_ledger.specs.declared.reply.GraftError.{GraftError}
 use Rattle.s66_ledger.specs.declared.reply.GraftError.TheVariants as refused
-use Rattle.s66_ledger.specs.declared.reply.BackError.{BackError}
 use Rattle.s66_ledger.specs.declared.reply.BackError.TheVariants as kept
 use Rattle.s66_ledger.proofs.Taken.{same-splits}
-use Rattle.s66_share.specs.SeatViews.{View, MayBecome, renewed, idle, holding, first_book}
-use Rattle.s66_pool.specs.Hubs.{SeatOf, HasGrafted, HasBeenRefused, HasOffered, IsKnown}
+use Rattle.s66_share.specs.{View, MayBecome, renewed, idle, holding, first_book}
+use Rattle.s66_pool.specs.{SeatOf, HasGrafted, HasBeenRefused, HasOffered, IsKnown}
 use Rattle.s66_pool.proofs.SeatEvents.{renewed-agrees, same-follows, same-book, event-follows, quiet-book, stated-book, lower-stated, answer-stated, gave-book, gave-opened}
 
 -- A SEAT THAT GAVE THE LEDGER BACK

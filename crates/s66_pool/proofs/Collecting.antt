@@ -2,12 +2,11 @@
 use Rattle.std.proofs.Common.{◌≡◌, ℕ, ◌+◌, ◌≤◌, ◌||◌, cond, eqb, Bool, true, false, List, [], ◌∷◌, ◌++◌, length, map, All, sym, refl, ap, ◌∙◌, arith, append_assoc}
 use Rattle.std.proofs.lemmas.List.{map-append}
 use Rattle.std.proofs.lemmas.List.Elements.{All-nil, All-cons, All-head, All-tail}
-use Rattle.s66_isa.specs.Lists.{weigh, some_of}
-use Rattle.s66_model.specs.Accounts.{Summary, SeatRecord, Agrees}
-use Rattle.s66_pool.specs.Hubs.{SeatOf, HaveSeats}
-use Rattle.s66_share.specs.SeatViews.{books_of}
-use Rattle.s66_share.specs.LockTokens.{HaveEvery}
+use Rattle.s66_isa.specs.{weigh, some_of}
+use Rattle.s66_model.specs.{Summary, SeatRecord, Agrees}
+use Rattle.s66_share.specs.{books_of, HaveEvery}
 use Rattle.s66_share.proofs.Sums.{splits-of-all}
+use Rattle.s66_pool.specs.{SeatOf, HaveSeats}
 
 abbrev pub books_in : List SeatOf → List SeatRecord
 books_in seats = map (λ s. s.book) seats

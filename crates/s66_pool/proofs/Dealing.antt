@@ -2,12 +2,12 @@
 use Rattle.std.proofs.Common.{◌≡◌, ℕ, suc, ◌+◌, ◌-◌, ◌<◌, ◌≤◌, List, [], ◌∷◌, ◌++◌, length, map, All, sym, refl, ap, ◌∙◌, subst, arith, append_assoc, append-nil}
 use Rattle.std.proofs.lemmas.List.Elements.{All-push}
 use Rattle.atomic_table.specs.Seated.{TableId}
-use Rattle.s66_isa.specs.Lists.{rising}
-use Rattle.s66_model.specs.Accounts.{Summary, SeatRecord, opened}
+use Rattle.s66_isa.specs.{rising}
+use Rattle.s66_model.specs.{Summary, SeatRecord, opened}
 use Rattle.s66_model.proofs.AccountLaws.{accounts-count}
-use Rattle.s66_ledger.specs.Ledgers.{LedgerOf, events_of, account_summary}
-use Rattle.s66_share.specs.SeatViews.{rest_of, first_book}
-use Rattle.s66_pool.specs.Hubs.{SeatOf}
+use Rattle.s66_ledger.specs.{LedgerOf, events_of, account_summary}
+use Rattle.s66_share.specs.{rest_of, first_book}
+use Rattle.s66_pool.specs.{SeatOf}
 
 -- an account for each worker
 pub account-count : (l : LedgerOf) → length (account_summary l).accounts ≡ l.workers

@@ -1,17 +1,13 @@
 -- Members of a crew, their seats, and what they have beside them.
-use Rattle.std.proofs.Common.{ℕ, suc, zero, ◌≡◌, ◌≢◌, ◌<◌, ◌≤◌, ◌+◌, All, List, [], ◌∷◌, ◌++◌, Option, Some, Vec, Global, length, map, drop, take, set, get_or, vec_len, option_to_list, append_assoc, append-nil, sym, refl, ap, ap₂, ◌∙◌, subst, arith}
-use Rattle.std.specs.Option.{IfSome}
-use Rattle.std.proofs.lemmas.List.{map_push, map-set, length-map, length-set, get_or_default, get_or-set_same, get_or-set_other, get_or-map, take_at}
-use Rattle.std.proofs.lemmas.List.Elements.{All-cons, All-head, All-tail, All-nil, All-pop, All-push, All-same, All-set}
 use mathlib.Core.Logic.{dite}
 use native.Mathlib.Decide.{ℕ_discrete}
+use Rattle.std.proofs.Common.{ℕ, suc, zero, ◌≡◌, ◌≢◌, ◌<◌, ◌≤◌, ◌+◌, All, List, [], ◌∷◌, ◌++◌, Option, Some, Vec, Global, length, map, drop, take, set, get_or, vec_len, option_to_list, append_assoc}
+use Rattle.std.proofs.Common.{append-nil, sym, refl, ap, ap₂, ◌∙◌, subst, arith, IfSome, length-set, get_or-set_same, get_or-set_other, take_at}
+use Rattle.std.proofs.lemmas.List.{map_push, map-set, length-map, get_or_default, get_or-map}
+use Rattle.std.proofs.lemmas.List.Elements.{All-cons, All-head, All-tail, All-nil, All-pop, All-push, All-same, All-set}
 use Rattle.atomic_table.specs.Seated.{TableId}
-use Rattle.s66_share.specs.Lanes.{LaneId, LaneOf}
-use Rattle.s66_pool.specs.Hubs.{SeatOf}
-use Rattle.s66_pool.specs.Victims.{VictimOf}
-use Rattle.s66_pool.specs.declared.member.Local.{Local}
-use Rattle.s66_pool.specs.declared.member.Member.{Member}
-use Rattle.s66_pool.specs.Workers.{IsSameSeat, AreSameSeats, IsSameMember, MatchesLane, AllMatchLanes, VictimsMatchLanes, ids_of, seats_of, locals_of, lanes_of, victims_of}
+use Rattle.s66_share.specs.{LaneId, LaneOf}
+use Rattle.s66_pool.specs.{SeatOf, VictimOf, Local, Member, IsSameSeat, AreSameSeats, IsSameMember, MatchesLane, AllMatchLanes, VictimsMatchLanes, ids_of, seats_of, locals_of, lanes_of, victims_of}
 
 -- WHAT IS DONE AND WHAT IS LEFT
 

@@ -1,18 +1,18 @@
 -- Each step of the parts of a search's marks keeps their rule.
-use Rattle.std.proofs.Common.{◌≡◌, ◌≢◌, ℕ, zero, suc, ◌<◌, List, [], ◌∷◌, length, map, set, get_or, eqb, All, sym, refl, ap, ◌∙◌, subst, arith}
 use mathlib.Core.Option.{some, none}
 use mathlib.Core.Option as maybe
 use mathlib.Core.Logic.{dite}
 use native.Mathlib.Decide.{ℕ_discrete}
 use prog.Atomic.{either}
 use lib.ListN.{get_elem?}
-use Rattle.std.proofs.lemmas.List.{length-set, length-map, get_or-set_same, get_or-set_other}
+use Rattle.std.proofs.Common.{◌≡◌, ◌≢◌, ℕ, zero, suc, ◌<◌, List, [], ◌∷◌, length, map, set, get_or, eqb, All, sym, refl, ap, ◌∙◌, subst, arith, length-set, get_or-set_same, get_or-set_other}
+use Rattle.std.proofs.lemmas.List.{length-map}
 use Rattle.std.proofs.lemmas.List.Elements.{All-head, All-tail}
 use Rattle.atomic_table.specs.Table.{State, Me, keeps, takes, gives, Allows, Enters, opening, rest}
 use Rattle.atomic_table.proofs.Lists.{set_here, set_else, exchanged}
-use Rattle.s66_node.specs.MarkTables.{MarkTable}
-use Rattle.s66_pool.specs.Parts.{ArePartsOf}
+use Rattle.s66_node.specs.{MarkTable}
 use Rattle.s66_share.proofs.Seats.{each-set, each-snoc, each-one}
+use Rattle.s66_pool.specs.{ArePartsOf}
 
 abbrev S : Type 0
 S = State MarkTable MarkTable

@@ -1,14 +1,12 @@
 -- If the seats of all workers come back, each worker has one among them.
-use Rattle.std.proofs.Common.{ℕ, zero, suc, ◌+◌, ◌≤◌, ◌<◌, ◌≡◌, ◌==◌, ◌∙◌, true, List, [], ◌∷◌, map, length, refl, sym, ap, subst, arith, inl, inr}
-use Rattle.std.proofs.lemmas.Bool.{cases_eq, eq-eqb, or_left, or_right}
+use Rattle.std.proofs.Common.{ℕ, zero, suc, ◌+◌, ◌≤◌, ◌<◌, ◌≡◌, ◌==◌, ◌∙◌, true, List, [], ◌∷◌, map, length, refl, sym, ap, subst, arith, inl, inr, eq-eqb}
+use Rattle.std.proofs.lemmas.Bool.{cases_eq, or_left, or_right}
 use Rattle.std.proofs.lemmas.List.{length-map}
-use Rattle.s66_isa.specs.Lists.{some_of, rising}
-use Rattle.s66_model.specs.LedgerRuns.{best_time}
-use Rattle.s66_model.specs.Accounts.{Summary, account_of, opened}
+use Rattle.s66_isa.specs.{some_of, rising}
+use Rattle.s66_model.specs.{best_time, Summary, account_of, opened}
 use Rattle.s66_model.proofs.Beginnings.{length-rising}
-use Rattle.s66_ledger.specs.Ledgers.{LedgerOf, account_summary, events_of}
-use Rattle.s66_pool.specs.Hubs.{HubOf, SeatOf, HaveSeats}
-use Rattle.s66_pool.specs.Workers.{AreSameSeats, LedgerGoesOn}
+use Rattle.s66_ledger.specs.{LedgerOf, account_summary, events_of}
+use Rattle.s66_pool.specs.{HubOf, SeatOf, HaveSeats, AreSameSeats, LedgerGoesOn}
 
 have-seats-from : (f : ℕ → SeatOf) → ((n : ℕ) → (f n).book.who ≡ n) → (count low : ℕ) (back : List SeatOf) → AreSameSeats (map f (rising count low)) back →
     (w : ℕ) → low ≤ w → w < low + count → some_of (λ s. s.book.who == w) back ≡ true

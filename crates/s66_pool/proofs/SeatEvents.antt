@@ -1,13 +1,11 @@
 -- What a call of the ledger makes of its summary, and of the seat record of the worker who called.
 use Rattle.std.proofs.Common.{◌≡◌, ℕ, ◌≤◌, Bool, List, [], ◌∷◌, ◌++◌, Option, None, sym, refl, ap, ◌∙◌, subst, arith}
 use Rattle.atomic_table.specs.Table.{Me}
-use Rattle.s66_model.specs.Timing.{Problem}
-use Rattle.s66_model.specs.LedgerRuns.{Event, Reply, Offer, Lower, NotLower, worker, best_time}
-use Rattle.s66_model.specs.Accounts.{Summary, SeatRecord, Agrees, summary_of, opened, after_event, least_after}
+use Rattle.s66_model.specs.{Problem, Event, Reply, Offer, Lower, NotLower, worker, best_time, Summary, SeatRecord, Agrees, summary_of, opened, after_event, least_after}
 use Rattle.s66_model.proofs.AccountLaws.{agrees-own, agrees-other, accounts-count}
 use Rattle.s66_model.proofs.LedgerRuns.{step-falls}
-use Rattle.s66_ledger.specs.Ledgers.{LedgerOf, IsEvent, events_of, account_summary}
-use Rattle.s66_share.specs.SeatViews.{View, MayBecome, renewed, idle, holding, first_book, found_at}
+use Rattle.s66_ledger.specs.{LedgerOf, IsEvent, events_of, account_summary}
+use Rattle.s66_share.specs.{View, MayBecome, renewed, idle, holding, first_book, found_at}
 
 -- a ledger has the worker as it was found
 pub number_within : (l found : LedgerOf) → found ≡ l → (p : SeatRecord) (number : ℕ) → Agrees (account_summary l) p → p.who ≡ number → (1 ≤ number) × (number ≤ found.workers)

@@ -1,19 +1,11 @@
 -- What the entries of a worker in a history spend, summed one after the other (`splits_by`).
-use Rattle.std.proofs.Common.{◌≡◌, ℕ, suc, ◌+◌, ◌<◌, ◌≤◌, cond, eqb, List, [], ◌∷◌, length, map, take, drop, get_or, refl, ap, arith, ◌∙◌}
-use Rattle.std.proofs.Math.Seq.{drop-cons}
-use Rattle.s66_isa.specs.Lists.{weigh}
-use Rattle.s66_model.specs.Timing.{Problem}
-use Rattle.s66_model.specs.LedgerRuns.{worker}
-use Rattle.s66_model.specs.Recorded.{spends, spent_by}
-use Rattle.s66_model.specs.Accounts.{Account, account_at}
+use Rattle.std.proofs.Common.{◌≡◌, ℕ, suc, ◌+◌, ◌<◌, ◌≤◌, cond, eqb, List, [], ◌∷◌, length, map, take, drop, get_or, refl, ap, arith, ◌∙◌, drop-cons}
+use Rattle.s66_isa.specs.{weigh}
+use Rattle.s66_model.specs.{Problem, worker, spends, spent_by, Account, account_at, Vertex, Terminal}
 use Rattle.s66_model.proofs.AccountLaws.{account-at, accounts-count}
-use Rattle.s66_ledger.specs.declared.event_record.EventRecord.{EventRecord}
+use Rattle.s66_ledger.specs.{EventRecord, byte_count, line_count, entry_of, entries_of, LedgerOf, events_of, account_summary}
 use Rattle.s66_ledger.specs.declared.event_record.EventRecord.TheVariants as entry
 use Rattle.s66_ledger.specs.declared.event_record.Refusal.TheVariants as refusal
-use Rattle.s66_model.specs.Trees.{Vertex}
-use Rattle.s66_model.specs.Piece.{Terminal}
-use Rattle.s66_ledger.specs.HistoryEntries.{byte_count, line_count, entry_of, entries_of}
-use Rattle.s66_ledger.specs.Ledgers.{LedgerOf, events_of, account_summary}
 use Rattle.s66_pool.proofs.AfterCalls.{account-within}
 
 abbrev pub spent_in : Problem → ℕ → List EventRecord → ℕ

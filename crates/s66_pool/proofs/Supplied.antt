@@ -1,18 +1,11 @@
 -- What the events of a turn at the lock make of the ledger's summary, and of the seat record of the worker whose turn it is.
 use Rattle.std.proofs.Common.{◌≡◌, ℕ, ◌+◌, Bool, true, false, List, [], ◌∷◌, ◌++◌, Option, Some, None, sym, refl, ap, ◌∙◌, subst, arith}
 use Rattle.s66_model.specs.LedgerRuns as model
-use Rattle.s66_model.specs.LedgerRuns.{Event, Reply, Claim, Claimed, worker}
-use Rattle.s66_model.specs.Recorded.{spends}
-use Rattle.s66_model.specs.Trees.{splits}
-use Rattle.s66_model.specs.Accounts.{SeatRecord, Agrees, after_event, least_after}
-use Rattle.s66_node.specs.Pieces.{PieceOf, tree_of}
-use Rattle.s66_model.specs.Tickets.{TicketOf}
-use Rattle.s66_ledger.specs.Ledgers.{LedgerOf, IsEvent, account_summary}
-use Rattle.s66_ledger.specs.Grafts.{IsGraft}
-use Rattle.s66_pool.specs.declared.supply.Supply.{Supply}
-use Rattle.s66_pool.specs.Supplies.{AreEvents, after_events, grants, claims, last_claim, supplied}
-use Rattle.s66_share.specs.SeatViews.{MayBecome, renewed}
-use Rattle.s66_pool.specs.Hubs.{SeatOf, HasSupply, HasGrafted, HasGraftedAndSupply}
+use Rattle.s66_model.specs.{Event, Reply, Claim, Claimed, worker, spends, splits, SeatRecord, Agrees, after_event, least_after, TicketOf}
+use Rattle.s66_node.specs.{PieceOf, tree_of}
+use Rattle.s66_ledger.specs.{LedgerOf, IsEvent, account_summary, IsGraft}
+use Rattle.s66_share.specs.{MayBecome, renewed}
+use Rattle.s66_pool.specs.{Supply, AreEvents, after_events, grants, claims, last_claim, supplied, SeatOf, HasSupply, HasGrafted, HasGraftedAndSupply}
 use Rattle.s66_pool.proofs.SeatEvents.{event-follows, event-agrees, follows-itself, follows-on, renewed-is, renewed-agrees}
 use Rattle.s66_pool.proofs.AfterCalls.{Keeps, grafted}
 

@@ -1,16 +1,13 @@
 -- To be believed: what contracts see of a hub and of a seat at it, and what a call makes of a seat.
 use Rattle.std.specs.Prelude.{ℕ, ⊤, ◌≡◌, ◌≤◌, ◌==◌, true, List}
 use Rattle.atomic_table.specs.Seated.{TableId}
-use Rattle.s66_isa.specs.Lists.{some_of}
+use Rattle.s66_isa.specs.{some_of}
 use Rattle.s66_model.specs.LedgerRuns as model
-use Rattle.s66_model.specs.LedgerRuns.{Event, Reply}
-use Rattle.s66_model.specs.Recorded.{IsGraftOf, IsOfferOf}
-use Rattle.s66_model.specs.Accounts.{Summary, SeatRecord, after_event}
-use Rattle.s66_node.specs.Pieces.{PieceOf, tree_of}
+use Rattle.s66_model.specs.{Event, Reply, IsGraftOf, IsOfferOf, Summary, SeatRecord, after_event, TicketOf}
 use Rattle.s66_time.specs.TimedOrder.{TimedOrder}
-use Rattle.s66_ledger.specs.declared.reply.GraftError.{GraftError}
+use Rattle.s66_node.specs.{PieceOf, tree_of}
+use Rattle.s66_ledger.specs.{GraftError}
 use Rattle.s66_ledger.specs.declared.reply.GraftError.TheVariants as refused
-use Rattle.s66_model.specs.Tickets.{TicketOf}
 use Rattle.s66_pool.specs.declared.supply.Supply.{Supply}
 use Rattle.s66_pool.specs.Supplies.{after_events, supplied}
 

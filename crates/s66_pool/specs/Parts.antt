@@ -1,12 +1,12 @@
 -- Used by contracts within the crate alone: the rule of the parts of a search's marks, and what is learnt from each of its steps.
 -- A part's word is 0 while it is at home, and else 1.
-use Rattle.std.specs.Prelude.{ℕ, ◌≡◌, ◌≢◌, ◌<◌, ◌∷◌, length, slice_index, []}
 use mathlib.Core.Option.{some}
 use lib.ListN.{get_elem?}
+use Rattle.std.specs.Prelude.{ℕ, ◌≡◌, ◌≢◌, ◌<◌, ◌∷◌, length, slice_index, []}
 use Rattle.atomic_table.specs.Table.{State, Me, Step, rest}
 use Rattle.atomic_table.specs.Seated.{TableId}
 use Rattle.atomic_table.specs.declared.shared.Seat.{Seat}
-use Rattle.s66_node.specs.MarkTables.{MarkTable}
+use Rattle.s66_node.specs.{MarkTable}
 
 -- there is a word for each part; each part whose word is 0 is at home with marks of the key's problem, and each seat knows the key
 pub record ArePartsOf (key : MarkTable) (s : State MarkTable MarkTable) : Type 0 where

@@ -1,9 +1,7 @@
 -- To be believed: what a worker gets in one turn at the lock: the events of the ledger, and what they make of the worker's seat record.
 use Rattle.std.specs.Prelude.{ℕ, Bool, true, false, ◌≡◌, ◌≢◌, ◌≤◌, ◌⊎◌, List, [], ◌∷◌, ◌++◌, length, map, Option, Some, None}
-use Rattle.s66_model.specs.LedgerRuns.{Event, Reply, Grant, Granted, Claim, Claimed}
-use Rattle.s66_model.specs.Accounts.{SeatRecord, after_event}
-use Rattle.s66_model.specs.Tickets.{TicketOf}
-use Rattle.s66_ledger.specs.Ledgers.{LedgerOf, IsEvent}
+use Rattle.s66_model.specs.{Event, Reply, Grant, Granted, Claim, Claimed, SeatRecord, after_event, TicketOf}
+use Rattle.s66_ledger.specs.{LedgerOf, IsEvent}
 use Rattle.s66_pool.specs.declared.limits.TheConstants.{CLAIMS_LIMIT}
 use Rattle.s66_pool.specs.declared.supply.Needs.{Needs}
 use Rattle.s66_pool.specs.declared.supply.Supply.{Supply}

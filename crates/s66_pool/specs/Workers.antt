@@ -1,11 +1,10 @@
 -- To be believed: what comes back from the workers of a search: each seat that was given out, and a ledger in which the search went on.
 use Rattle.std.specs.Prelude.{ℕ, ◌≡◌, ◌<◌, ◌≤◌, All, List, Vec, length, map, slice_index_or}
 use Rattle.std.specs.declared.alloc.Global.{Global}
-use Rattle.s66_model.specs.Timing.{Problem, total_of}
-use Rattle.s66_model.specs.LedgerRuns.{best_time}
-use Rattle.s66_share.specs.Lanes.{LaneId, LaneOf}
+use Rattle.s66_model.specs.{Problem, total_of, best_time}
 use Rattle.s66_time.specs.TimedOrder.{TimedOrder}
-use Rattle.s66_ledger.specs.Ledgers.{LedgerOf}
+use Rattle.s66_ledger.specs.{LedgerOf}
+use Rattle.s66_share.specs.{LaneId, LaneOf}
 use Rattle.s66_pool.specs.Hubs.{SeatOf}
 use Rattle.s66_pool.specs.Victims.{VictimOf}
 use Rattle.s66_pool.specs.declared.member.Local.{Local}

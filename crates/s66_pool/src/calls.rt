@@ -11,12 +11,10 @@ use std::sync::Wait;
 
 impl<'a> Hub<'a> {
     ghost use Rattle.std.specs.Prelude.{◌≡◌, ◌≤◌, [], IfOk, IfErr, OnOk, OnErr};
-    ghost use Rattle.s66_model.specs.LedgerRuns.{Grant, Granted, Back, Returned, NotOut, Retire, Retired};
-    ghost use Rattle.s66_model.specs.Accounts.{after_event, after_reading};
-    ghost use Rattle.s66_ledger.specs.Replies.{offered_reply};
+    ghost use Rattle.s66_model.specs.{Grant, Granted, Back, Returned, NotOut, Retire, Retired, after_event, after_reading};
+    ghost use Rattle.s66_ledger.specs.{offered_reply};
     ghost use Rattle.s66_ledger.specs.declared.reply.BackError.TheVariants as refused;
-    ghost use Rattle.s66_pool.specs.Supplies.{IsSupplyFor};
-    ghost use Rattle.s66_pool.specs.Hubs.{HasSupply, HasGraftedAndSupply, HasBeenRefused, HasOffered, IsKnown};
+    ghost use Rattle.s66_pool.specs.{IsSupplyFor, HasSupply, HasGraftedAndSupply, HasBeenRefused, HasOffered, IsKnown};
 
     /// Moves splits of the budget to the worker, as `Ledger::grant` does.
     pub fn grant<R: Wait>(&self, rt: &R, seat: &mut Seat<'a>) -> Result<u32, AllocError>

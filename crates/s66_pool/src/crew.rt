@@ -1,8 +1,8 @@
 //! The threads (`work`): starts a worker for each seat, waits for all of them, and gives back what is left in their lanes.
 
 ghost use Rattle.std.specs.Prelude.{◌≡◌, ◌<◌, ◌≤◌, ℕ, [], All, length, slice_index_or, vec_capacity, vec_len};
-ghost use Rattle.s66_line.specs.Blocks.{instrs_of};
-ghost use Rattle.s66_share.specs.Lanes.{LaneId};
+ghost use Rattle.s66_line.specs.{instrs_of};
+ghost use Rattle.s66_share.specs.{LaneId};
 ghost use Rattle.s66_pool.specs.Workers.{AreSameSeats, VictimsMatchLanes, IsSameMember, IsSameSeat, lanes_of, locals_of, seats_of, victims_of};
 
 use crate::gate::Gate;

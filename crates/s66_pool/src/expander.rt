@@ -1,5 +1,9 @@
 //! What a worker expands prefixes with: its walk, and the nodes that it may name.
 
+ghost use Rattle.std.specs.Prelude.{◌≡◌, ◌≤◌, IfSome};
+ghost use Rattle.s66_model.specs.{Problem, splits};
+ghost use Rattle.s66_node.specs.{tree_of};
+
 use crate::known_nodes::KnownNodes;
 use crate::shared_marks::SharedMarks;
 use s66_ledger::piece_splits;
@@ -19,9 +23,6 @@ pub(crate) struct Expander<'s, 'b, R> {
 }
 
 impl<'s, 'b, R> Model for Expander<'s, 'b, R> {
-    ghost use Rattle.std.specs.Prelude.{◌≡◌};
-    ghost use Rattle.s66_model.specs.Timing.{Problem};
-
     ghost Value = { Problem };
 
     ghost view = { λ e. e.walk.problem };
@@ -30,10 +31,6 @@ impl<'s, 'b, R> Model for Expander<'s, 'b, R> {
 }
 
 impl<'s, 'b, R: Wait> Expander<'s, 'b, R> {
-    ghost use Rattle.std.specs.Prelude.{◌≡◌, ◌≤◌, IfSome};
-    ghost use Rattle.s66_model.specs.Trees.{splits};
-    ghost use Rattle.s66_node.specs.Pieces.{tree_of};
-
     /// One that has expanded nothing yet, and knows the nodes that all workers have grafted.
     pub(crate) fn new(
         alloc: Global,

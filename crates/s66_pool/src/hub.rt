@@ -19,7 +19,7 @@ pub struct Hub<'a> {
 
 impl<'a> Model for Hub<'a> {
     ghost use Rattle.std.specs.Prelude.{◌≡◌, ◌≤◌, length};
-    ghost use Rattle.s66_ledger.specs.Ledgers.{account_summary};
+    ghost use Rattle.s66_ledger.specs.{account_summary};
     ghost use Rattle.s66_pool.specs.Hubs.{HubOf};
 
     ghost Value = { HubOf };
@@ -38,11 +38,10 @@ pub struct SeatsMissing;
 
 impl<'a> Hub<'a> {
     ghost use Rattle.std.specs.Prelude.{◌≡◌, ◌≤◌, All, length, map, IfOk, IfErr};
-    ghost use Rattle.s66_isa.specs.Lists.{weigh, rising};
-    ghost use Rattle.s66_model.specs.LedgerRuns.{best_time};
-    ghost use Rattle.s66_model.specs.Accounts.{Agrees, opened};
-    ghost use Rattle.s66_ledger.specs.Ledgers.{account_summary};
-    ghost use Rattle.s66_pool.specs.Hubs.{HaveSeats};
+    ghost use Rattle.s66_isa.specs.{weigh, rising};
+    ghost use Rattle.s66_model.specs.{best_time, Agrees, opened};
+    ghost use Rattle.s66_ledger.specs.{account_summary};
+    ghost use Rattle.s66_pool.specs.{HaveSeats};
 
     /// The ledger under a lock, and a seat for each worker, in order of their numbers.
     ///

@@ -1,5 +1,7 @@
 //! Which nodes a worker may name in dominated leaves: those of its own piece, and those that all workers have grafted.
 
+ghost use Rattle.std.specs.Prelude.{◌≡◌, []};
+
 use crate::shared_marks::{SharedMarks, Token};
 use s66_model::Rule;
 use s66_node::{MarkEntry, MarkTable, Name, Naming, NodePlace, State, Walk};
@@ -22,7 +24,7 @@ pub(crate) struct KnownNodes<'s, 'b, R> {
 
 impl<'s, 'b, R> Model for KnownNodes<'s, 'b, R> {
     ghost use Rattle.std.specs.Prelude.{◌≡◌};
-    ghost use Rattle.s66_node.specs.MarkTables.{MarkTable};
+    ghost use Rattle.s66_node.specs.{MarkTable};
     ghost use Rattle.s66_pool.specs.Parts.{IsAt};
 
     ghost Value = { MarkTable };
@@ -34,8 +36,6 @@ impl<'s, 'b, R> Model for KnownNodes<'s, 'b, R> {
 }
 
 impl<'s, 'b, R: Wait> KnownNodes<'s, 'b, R> {
-    ghost use Rattle.std.specs.Prelude.{◌≡◌, []};
-
     /// It knows no line yet.
     pub(crate) fn new(
         alloc: Global,
@@ -74,8 +74,6 @@ impl<'s, 'b, R: Wait> KnownNodes<'s, 'b, R> {
 }
 
 impl<R: Wait> Naming for KnownNodes<'_, '_, R> {
-    ghost use Rattle.std.specs.Prelude.{◌≡◌};
-
     ghost suits = { λ known b. known.problem ≡ b };
 
     ghost names = { λ known. known.names };

@@ -1,8 +1,8 @@
 //! What each worker needs beside its seat, made and dealt before any starts: lanes with a pass at each, and seats at the hint.
 
 ghost use Rattle.std.specs.Prelude.{◌≡◌, ◌≤◌, ◌<◌, All, IfOk, [], length, slice_index_or};
-ghost use Rattle.s66_share.specs.Lanes.{LaneId, LaneOf};
-ghost use Rattle.s66_pool.specs.Workers.{AllMatchLanes, VictimsMatchLanes, ids_of};
+ghost use Rattle.s66_share.specs.{LaneId, LaneOf};
+ghost use Rattle.s66_pool.specs.{AllMatchLanes, VictimsMatchLanes, ids_of};
 
 use crate::incumbent::Incumbent;
 use crate::member::Local;

@@ -29,7 +29,7 @@ fn all_kept(marks: &MarkTable<'_>) -> Result<(), AllocError> {
 }
 
 impl<'a> Model for LoneSearch<'a> {
-    ghost use Rattle.s66_ledger.specs.Ledgers.{LedgerOf};
+    ghost use Rattle.s66_ledger.specs.{LedgerOf};
     ghost use Rattle.s66_pool.specs.Workers.{IsLone};
 
     ghost Value = { LedgerOf };
@@ -41,11 +41,10 @@ impl<'a> Model for LoneSearch<'a> {
 
 impl<'a> LoneSearch<'a> {
     ghost use Rattle.std.specs.Prelude.{◌≡◌, ◌≤◌, ◌↔◌, IsTrue, IfOk, OnOk};
-    ghost use Rattle.s66_line.specs.Blocks.{instrs_of};
-    ghost use Rattle.s66_model.specs.LedgerRuns.{best_time};
-    ghost use Rattle.s66_model.specs.Coverage.{IsFinished, bound_of};
-    ghost use Rattle.s66_ledger.specs.Answers.{answer_of};
-    ghost use Rattle.s66_pool.specs.Workers.{LedgerGoesOn, HasTaken};
+    ghost use Rattle.s66_line.specs.{instrs_of};
+    ghost use Rattle.s66_model.specs.{best_time, IsFinished, bound_of};
+    ghost use Rattle.s66_ledger.specs.{answer_of};
+    ghost use Rattle.s66_pool.specs.{LedgerGoesOn, HasTaken};
 
     /// Before the first split: its best order is the best of the source order and two list schedules. Of the options the number of
     /// workers isn't read. `Err` is out of memory.

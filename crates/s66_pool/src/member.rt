@@ -22,7 +22,7 @@ pub(crate) struct Member<'t, 'a> {
 }
 
 impl<'t> Local<'t> {
-    ghost use Rattle.s66_pool.specs.Workers.{IsSameLocal};
+    ghost use Rattle.s66_pool.specs.{IsSameLocal};
 
     /// Takes the first node of the worker's own lane, or else tries once to steal one from each of the others. None says only that
     /// these calls got none.

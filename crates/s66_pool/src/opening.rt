@@ -2,14 +2,10 @@
 //! whether all seats are there.
 
 ghost use Rattle.std.specs.Prelude.{ℕ, [], ◌≡◌, ◌≤◌, ◌==◌, ◌-◌, ◌↔◌, length, slice_index_or, IfOk, IsTrue, if◌then◌else◌};
-ghost use Rattle.s66_isa.specs.Lists.{some_of};
-ghost use Rattle.s66_model.specs.Timing.{Problem};
-ghost use Rattle.s66_model.specs.LedgerRuns.{worker};
-ghost use Rattle.s66_model.specs.Recorded.{spends};
-ghost use Rattle.s66_model.specs.Accounts.{account_at};
-ghost use Rattle.s66_ledger.specs.HistoryEntries.{entry_of};
-ghost use Rattle.s66_ledger.specs.Ledgers.{account_summary};
-ghost use Rattle.s66_pool.specs.Hubs.{HaveSeats};
+ghost use Rattle.s66_isa.specs.{some_of};
+ghost use Rattle.s66_model.specs.{Problem, worker, spends, account_at};
+ghost use Rattle.s66_ledger.specs.{entry_of, account_summary};
+ghost use Rattle.s66_pool.specs.{HaveSeats};
 
 use crate::seat::Seat;
 use s66_ledger::{EventRecord, Ledger};

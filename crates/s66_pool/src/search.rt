@@ -2,8 +2,8 @@
 //! again.
 
 ghost use Rattle.std.specs.Prelude.{◌≡◌, ◌≤◌, IfOk};
-ghost use Rattle.s66_line.specs.Blocks.{instrs_of};
-ghost use Rattle.s66_pool.specs.Workers.{LedgerGoesOn};
+ghost use Rattle.s66_line.specs.{instrs_of};
+ghost use Rattle.s66_pool.specs.{LedgerGoesOn};
 
 use crate::crew::work;
 use crate::gate::Gate;

@@ -1,5 +1,8 @@
 //! A worker's seat at a hub: its number, and what it knows of the ledger.
 
+ghost use Rattle.std.specs.Prelude.{◌≡◌, [], ◌∷◌};
+ghost use Rattle.s66_share.specs.{idle, book, IsResting};
+
 use s66_ledger::Ledger;
 use s66_share::Token;
 use std::boxed::Box;
@@ -18,7 +21,7 @@ pub struct Seat<'a> {
 impl<'a> Model for Seat<'a> {
     ghost use Rattle.std.specs.Prelude.{◌≡◌};
     ghost use Rattle.s66_pool.specs.Hubs.{SeatOf};
-    ghost use Rattle.s66_share.specs.LockTokens.{book, IsResting};
+    ghost use Rattle.s66_share.specs.{book, IsResting};
 
     ghost Value = { SeatOf };
 
@@ -29,10 +32,6 @@ impl<'a> Model for Seat<'a> {
 }
 
 impl<'a> Seat<'a> {
-    ghost use Rattle.std.specs.Prelude.{◌≡◌, [], ◌∷◌};
-    ghost use Rattle.s66_share.specs.SeatViews.{idle};
-    ghost use Rattle.s66_share.specs.LockTokens.{book, IsResting};
-
     pub(crate) fn new(number: u8, splits: u32, token: Token<Box<Ledger<'a>>>) -> Seat<'a>
         requires resting { IsResting token }
         requires number { (book token).who ≡ number }

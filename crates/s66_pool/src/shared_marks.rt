@@ -1,7 +1,7 @@
 //! The marks of the nodes that all workers of a search have grafted, in parts, each of which one worker at a time may use.
 
 ghost use Rattle.std.specs.Prelude.{◌≡◌, ◌<◌, All, length, IfOk};
-ghost use Rattle.s66_line.specs.Blocks.{instrs_of};
+ghost use Rattle.s66_line.specs.{instrs_of};
 
 use atomic_table::{Play, Refused, Seat, Table, TableRule};
 use s66_isa::{Profile, Set};
@@ -99,15 +99,12 @@ pub(crate) struct SharedMarks<'b> {
 
 impl<'b> SharedMarks<'b> {
     ghost use Rattle.std.specs.Prelude.{ℕ, ◌≡◌, ◌<◌, IfOk, IfSome};
-    ghost use Rattle.s66_line.specs.Blocks.{instrs_of};
-    ghost use Rattle.s66_isa.specs.Members.{numbers_in};
-    ghost use Rattle.s66_isa.specs.Lists.{has};
-    ghost use Rattle.s66_time.specs.Marks.{IsMarkOf};
-    ghost use Rattle.s66_model.specs.declared.rule.Rule.TheVariants.{ClampedStanding};
-    ghost use Rattle.s66_model.specs.LegalOrder.{IsIncomplete};
-    ghost use Rattle.s66_model.specs.DominatedLeaves.{DominatesByRule};
-    ghost use Rattle.s66_node.specs.MarkTables.{MarkTable, IsEntry};
-    ghost use Rattle.s66_pool.specs.Parts.{IsAt, HasPart};
+    ghost use Rattle.s66_line.specs.{instrs_of};
+    ghost use Rattle.s66_isa.specs.{numbers_in, has};
+    ghost use Rattle.s66_time.specs.{IsMarkOf};
+    ghost use Rattle.s66_model.specs.{ClampedStanding, IsIncomplete, DominatesByRule};
+    ghost use Rattle.s66_node.specs.{MarkTable, IsEntry};
+    ghost use Rattle.s66_pool.specs.{IsAt, HasPart};
 
     /// No mark. If workers name only lines of their own pieces, one part is made, which stays empty.
     pub(crate) fn new(

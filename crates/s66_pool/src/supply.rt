@@ -1,7 +1,7 @@
 //! What a worker gets in one turn at the lock: splits, if its allowance is spent, and open nodes, if it has none.
 
 ghost use Rattle.std.specs.Prelude.{◌≡◌, ◌≢◌, ◌≤◌, ◌++◌, [], true, false, None, IfOk, OnErr};
-ghost use Rattle.s66_pool.specs.Supplies.{AreEvents, IsClaimed, IsSupplyFor, grants, claims, last_claim, supplied};
+ghost use Rattle.s66_pool.specs.{AreEvents, IsClaimed, IsSupplyFor, grants, claims, last_claim, supplied};
 
 use crate::limits::CLAIMS_LIMIT;
 use s66_ledger::{Ledger, Ticket};

@@ -1,5 +1,7 @@
 //! Another worker's lane with a pass at it, from which a worker steals.
 
+ghost use Rattle.std.specs.Prelude.{◌≡◌};
+
 use s66_model::Ticket;
 use s66_share::{Lane, Pass, Thief};
 use std::marker::Model;
@@ -25,8 +27,6 @@ impl<'t> Model for Victim<'t> {
 }
 
 impl<'t> Victim<'t> {
-    ghost use Rattle.std.specs.Prelude.{◌≡◌};
-
     pub(crate) fn new(thief: &'t Thief, pass: Pass, place: usize) -> Victim<'t>
         requires { pass.lane ≡ thief.now }
         ensures { result ≡ record { place = place; lane = thief.now } }

@@ -6,7 +6,7 @@
 //! that still search.
 
 ghost use Rattle.std.specs.Prelude.{◌≡◌, [], IfOk};
-ghost use Rattle.s66_pool.specs.Workers.{IsSameMember, IsSameSeat};
+ghost use Rattle.s66_pool.specs.{IsSameMember, IsSameSeat};
 
 use crate::expander::Expander;
 use crate::gate::Gate;
@@ -83,9 +83,9 @@ pub(crate) fn work_at<'a, R: AllocGlobal + Wait, G: Gate>(
 
 impl<'s, 'b, R: AllocGlobal + Wait> Worker<'s, 'b, R> {
     ghost use Rattle.std.specs.Prelude.{◌≡◌, ◌≤◌};
-    ghost use Rattle.s66_model.specs.Trees.{splits};
-    ghost use Rattle.s66_node.specs.Pieces.{tree_of};
-    ghost use Rattle.s66_pool.specs.Workers.{IsSameMember, IsSameSeat};
+    ghost use Rattle.s66_model.specs.{splits};
+    ghost use Rattle.s66_node.specs.{tree_of};
+    ghost use Rattle.s66_pool.specs.{IsSameMember, IsSameSeat};
 
     /// A worker that has done nothing yet.
     fn new(alloc: Global, rt: &'s R, marks: &'s SharedMarks<'b>, rule: Rule) -> Worker<'s, 'b, R> {

@@ -1,4 +1,4 @@
-use Rattle.s66_pool.specs.Workers.{IsSameSeat}
+use Rattle.s66_pool.specs.{IsSameSeat}
 use Rattle.s66_pool.proofs.crew.give_left_back.Given as goal
 
 abbrev pub invariant-loop : goal.invariant-loop

@@ -1,5 +1,5 @@
 use Rattle.std.proofs.Common.{◌≡◌, ◌∙◌, Option, length, option_to_list, refl, ap, arith}
-use Rattle.s66_pool.specs.Victims.{VictimOf}
+use Rattle.s66_pool.specs.{VictimOf}
 use Rattle.s66_pool.proofs.Members.{seats-set, count-seats, victim-within, victim-here, placed-pop, placed-same, fewer-at}
 use Rattle.s66_pool.proofs.crew.leave_victims.Goals as goal
 

@@ -1,5 +1,5 @@
 use Rattle.std.proofs.Common.{◌≡◌, length}
-use Rattle.s66_pool.specs.Workers.{VictimsMatchLanes, locals_of, seats_of}
+use Rattle.s66_pool.specs.{VictimsMatchLanes, locals_of, seats_of}
 use Rattle.s66_pool.proofs.Members.{victims_at}
 use Rattle.s66_pool.proofs.crew.leave_victims.Given as goal
 

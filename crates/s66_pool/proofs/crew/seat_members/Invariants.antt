@@ -1,5 +1,5 @@
 use Rattle.std.proofs.Common.{◌≡◌, ◌≤◌, ◌+◌, ◌++◌, vec_len, vec_capacity}
-use Rattle.s66_pool.specs.Workers.{locals_of, seats_of}
+use Rattle.s66_pool.specs.{locals_of, seats_of}
 use Rattle.s66_pool.proofs.crew.seat_members.Given as goal
 
 abbrev pub invariant-loop-members : goal.invariant-loop-members

@@ -1,5 +1,5 @@
 use Rattle.std.proofs.Common.{◌≡◌, ◌∙◌, length-set, arith}
-use Rattle.s66_pool.specs.Hubs.{SeatOf}
+use Rattle.s66_pool.specs.{SeatOf}
 use Rattle.s66_pool.proofs.Members.{seat-at, same-after, here-after}
 use Rattle.s66_pool.proofs.crew.settle.Goals as goal
 

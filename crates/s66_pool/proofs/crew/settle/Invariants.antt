@@ -1,5 +1,5 @@
 use Rattle.std.proofs.Common.{◌≡◌, All, length}
-use Rattle.s66_pool.specs.Workers.{AreSameSeats, VictimsMatchLanes, locals_of, seats_of}
+use Rattle.s66_pool.specs.{AreSameSeats, VictimsMatchLanes, locals_of, seats_of}
 use Rattle.s66_pool.proofs.crew.settle.Given as goal
 
 abbrev pub invariant-loop-worker : goal.invariant-loop-worker

@@ -1,5 +1,5 @@
 use Rattle.std.proofs.Common.{◌≡◌, ◌≤◌, ◌+◌, ◌++◌, vec_len, vec_capacity}
-use Rattle.s66_pool.specs.Workers.{seats_of}
+use Rattle.s66_pool.specs.{seats_of}
 use Rattle.s66_pool.proofs.crew.take_seats.Given as goal
 
 abbrev pub invariant-loop-members : goal.invariant-loop-members

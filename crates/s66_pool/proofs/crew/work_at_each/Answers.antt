@@ -1,7 +1,6 @@
 use Rattle.std.proofs.Common.{◌≡◌}
 use Rattle.std.proofs.lemmas.List.Elements.{All-map}
-use Rattle.s66_pool.specs.Hubs.{SeatOf}
-use Rattle.s66_pool.specs.declared.member.Member.{Member}
+use Rattle.s66_pool.specs.{SeatOf, Member}
 use Rattle.s66_pool.proofs.Members.{worked-seats, worked-placed, here-kept}
 use Rattle.s66_pool.proofs.crew.work_at_each.Goals as goal
 

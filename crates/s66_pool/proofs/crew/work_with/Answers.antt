@@ -1,8 +1,6 @@
 use Rattle.std.proofs.Common.{◌≡◌, ◌∙◌, List, ap}
 use Rattle.std.proofs.lemmas.List.Elements.{All-same}
-use Rattle.s66_pool.specs.Hubs.{SeatOf}
-use Rattle.s66_pool.specs.declared.member.Member.{Member}
-use Rattle.s66_pool.specs.Workers.{seats_of}
+use Rattle.s66_pool.specs.{SeatOf, Member, seats_of}
 use Rattle.s66_pool.proofs.Members.{returned, here-kept, seat-at}
 use Rattle.s66_pool.proofs.crew.work_with.Goals as goal
 

@@ -1,6 +1,6 @@
 use Rattle.std.proofs.Common.{◌≡◌, ◌∙◌, length-set, arith}
 use Rattle.std.proofs.lemmas.List.Elements.{All-pop}
-use Rattle.s66_share.specs.Lanes.{PassOf}
+use Rattle.s66_share.specs.{PassOf}
 use Rattle.s66_pool.proofs.Members.{placed-new, placed-push}
 use Rattle.s66_pool.proofs.locals.deal.Goals as goal
 

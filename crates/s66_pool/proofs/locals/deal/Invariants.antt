@@ -1,5 +1,5 @@
 use Rattle.std.proofs.Common.{◌≡◌, All, length}
-use Rattle.s66_pool.specs.Workers.{AllMatchLanes}
+use Rattle.s66_pool.specs.{AllMatchLanes}
 use Rattle.s66_pool.proofs.locals.deal.Given as goal
 
 abbrev pub invariant-loop-worker : goal.invariant-loop-worker

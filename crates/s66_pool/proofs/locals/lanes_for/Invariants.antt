@@ -1,6 +1,6 @@
 use Rattle.std.proofs.Common.{◌≡◌, [], All, vec_len, vec_capacity}
-use Rattle.s66_share.specs.Lanes.{LaneOf}
-use Rattle.s66_pool.specs.Workers.{ids_of}
+use Rattle.s66_share.specs.{LaneOf}
+use Rattle.s66_pool.specs.{ids_of}
 use Rattle.s66_pool.proofs.locals.lanes_for.Given as goal
 
 abbrev pub invariant-loop : goal.invariant-loop

@@ -1,8 +1,7 @@
 use Rattle.std.proofs.Common.{◌≡◌, refl, arith}
 use Rattle.std.proofs.lemmas.List.Elements.{All-same, All-drop}
-use Rattle.s66_share.specs.Lanes.{LaneOf}
-use Rattle.s66_share.specs.Hints.{HintSeatOf}
-use Rattle.s66_pool.specs.declared.member.Local.{Local}
+use Rattle.s66_share.specs.{LaneOf, HintSeatOf}
+use Rattle.s66_pool.specs.{Local}
 use Rattle.s66_pool.proofs.Members.{moves-to, moves-by, all-moved}
 use Rattle.s66_pool.proofs.locals.locals_for.Goals as goal
 

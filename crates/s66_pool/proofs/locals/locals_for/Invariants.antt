@@ -1,5 +1,5 @@
 use Rattle.std.proofs.Common.{◌≡◌, ◌+◌, ◌++◌, All, vec_len, vec_capacity}
-use Rattle.s66_pool.specs.Workers.{ids_of, lanes_of, victims_of}
+use Rattle.s66_pool.specs.{ids_of, lanes_of, victims_of}
 use Rattle.s66_pool.proofs.locals.locals_for.Given as goal
 
 abbrev pub invariant-loop : goal.invariant-loop

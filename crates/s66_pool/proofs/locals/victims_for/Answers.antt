@@ -1,8 +1,6 @@
-use Rattle.std.proofs.Common.{◌∙◌, All, Vec, Global, length-set}
-use Rattle.std.proofs.lemmas.List.{take_at}
+use Rattle.std.proofs.Common.{◌∙◌, All, Vec, Global, length-set, take_at}
 use Rattle.std.proofs.lemmas.List.Elements.{All-same}
-use Rattle.s66_pool.specs.Victims.{VictimOf}
-use Rattle.s66_pool.specs.Workers.{MatchesLane}
+use Rattle.s66_pool.specs.{VictimOf, MatchesLane}
 use Rattle.s66_pool.proofs.Members.{ids-set, new-after}
 use Rattle.s66_pool.proofs.locals.victims_for.Goals as goal
 

@@ -1,6 +1,6 @@
 use Rattle.std.proofs.Common.{◌≡◌, ◌≤◌, ◌<◌, ℕ, [], length, slice_index_or, vec_len, vec_capacity}
-use Rattle.s66_share.specs.Lanes.{LaneOf}
-use Rattle.s66_pool.specs.Workers.{AllMatchLanes, ids_of}
+use Rattle.s66_share.specs.{LaneOf}
+use Rattle.s66_pool.specs.{AllMatchLanes, ids_of}
 use Rattle.s66_pool.proofs.locals.victims_for.Given as goal
 
 abbrev pub invariant-loop : goal.invariant-loop

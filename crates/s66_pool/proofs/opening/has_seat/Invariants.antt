@@ -1,5 +1,5 @@
 use Rattle.std.proofs.Common.{◌≡◌, eqb, drop}
-use Rattle.s66_isa.specs.Lists.{some_of}
+use Rattle.s66_isa.specs.{some_of}
 use Rattle.s66_pool.proofs.opening.has_seat.Given as goal
 
 abbrev pub invariant-loop-seat : goal.invariant-loop-seat

@@ -1,4 +1,4 @@
-use Rattle.s66_pool.specs.Hubs.{HaveSeats}
+use Rattle.s66_pool.specs.{HaveSeats}
 use Rattle.s66_pool.proofs.opening.have_seats.Given as goal
 
 abbrev pub invariant-loop-i : goal.invariant-loop-i

@@ -1,6 +1,6 @@
 use Rattle.std.proofs.Common.{◌≡◌, ◌≤◌, ◌-◌, ℕ, length, get_or}
-use Rattle.s66_model.specs.Accounts.{account_at}
-use Rattle.s66_ledger.specs.Ledgers.{account_summary}
+use Rattle.s66_model.specs.{account_at}
+use Rattle.s66_ledger.specs.{account_summary}
 use Rattle.s66_pool.proofs.opening.splits_of_workers.Given as goal
 
 abbrev pub invariant-loop-i : goal.invariant-loop-i

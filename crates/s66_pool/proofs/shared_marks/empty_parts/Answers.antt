@@ -1,7 +1,7 @@
 use Rattle.std.proofs.Common.{◌≡◌, ap, arith}
 use Rattle.std.proofs.lemmas.List.Elements.{All-push, All-same}
-use Rattle.s66_line.specs.Blocks.{instrs_of}
-use Rattle.s66_node.specs.MarkTables.{MarkTable}
+use Rattle.s66_line.specs.{instrs_of}
+use Rattle.s66_node.specs.{MarkTable}
 use Rattle.s66_pool.proofs.shared_marks.empty_parts.Goals as goal
 
 pub loop-preserved : goal.loop-preserved

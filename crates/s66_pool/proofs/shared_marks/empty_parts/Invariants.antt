@@ -1,5 +1,5 @@
 use Rattle.std.proofs.Common.{◌≡◌, All, vec_len, vec_capacity}
-use Rattle.s66_line.specs.Blocks.{instrs_of}
+use Rattle.s66_line.specs.{instrs_of}
 use Rattle.s66_pool.proofs.shared_marks.empty_parts.Given as goal
 
 abbrev pub invariant-loop : goal.invariant-loop

@@ -1,9 +1,7 @@
 use Rattle.std.proofs.Common.{◌++◌, ◌∷◌, [], true, ap, arith, ◌∙◌, subst, sym, List, Option, length, length-append}
-use Rattle.s66_model.specs.LedgerRuns.{Claim, Claimed}
-use Rattle.s66_model.specs.Tickets.{TicketOf}
-use Rattle.s66_ledger.specs.Ledgers.{IsEvent}
-use Rattle.s66_ledger.specs.ClaimedNodes.{claimed_node}
-use Rattle.s66_pool.specs.Supplies.{AreEvents, claims, last_claim}
+use Rattle.s66_model.specs.{Claim, Claimed, TicketOf}
+use Rattle.s66_ledger.specs.{IsEvent, claimed_node}
+use Rattle.s66_pool.specs.{AreEvents, claims, last_claim}
 use Rattle.s66_pool.proofs.Supplied.{claims-append, claims-none}
 use Rattle.s66_pool.proofs.supply.claim_nodes.Goals as goal
 

@@ -1,5 +1,5 @@
 use Rattle.std.proofs.Common.{◌≡◌, length}
-use Rattle.s66_pool.specs.Supplies.{AreEvents, claims}
+use Rattle.s66_pool.specs.{AreEvents, claims}
 use Rattle.s66_pool.proofs.supply.claim_nodes.Given as goal
 
 abbrev pub invariant-loop : goal.invariant-loop

@@ -1,5 +1,5 @@
 use Rattle.std.proofs.Common.{◌++◌, sym, subst, ℕ, Option}
-use Rattle.s66_pool.specs.Supplies.{AreEvents, grants, claims, last_claim}
+use Rattle.s66_pool.specs.{AreEvents, grants, claims, last_claim}
 use Rattle.s66_pool.proofs.Supplied.{events-append}
 use Rattle.s66_pool.proofs.supply.serve.Goals as goal
 

@@ -1,4 +1,4 @@
-use Rattle.s66_pool.specs.Workers.{IsSameMember}
+use Rattle.s66_pool.specs.{IsSameMember}
 use Rattle.s66_pool.proofs.worker.give_lane_back.Given as goal
 
 abbrev pub invariant-loop : goal.invariant-loop

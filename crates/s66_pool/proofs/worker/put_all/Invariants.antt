@@ -1,5 +1,5 @@
 use Rattle.std.proofs.Common.{vec_len}
-use Rattle.s66_pool.specs.Workers.{IsSameMember}
+use Rattle.s66_pool.specs.{IsSameMember}
 use Rattle.s66_pool.proofs.worker.put_all.Given as goal
 
 abbrev pub invariant-loop-ticket : goal.invariant-loop-ticket

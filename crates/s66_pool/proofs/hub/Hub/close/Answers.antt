@@ -1,13 +1,12 @@
 use Rattle.std.proofs.Common.{◌≡◌, ℕ, ◌≤◌, All, length, List, [], ◌∷◌, ◌++◌, Some, sym, ap, ◌∙◌, subst, arith, append-nil}
 use Rattle.std.proofs.lemmas.List.Elements.{All-pop}
 use Rattle.atomic_table.specs.Table.{Me}
-use Rattle.s66_model.specs.Accounts.{SeatRecord, Agrees}
+use Rattle.s66_model.specs.{SeatRecord, Agrees}
 use Rattle.s66_model.proofs.AccountLaws.{accounts-count}
-use Rattle.s66_ledger.specs.Ledgers.{LedgerOf, events_of, account_summary}
-use Rattle.s66_pool.specs.Hubs.{SeatOf, HaveSeats}
-use Rattle.s66_share.specs.SeatViews.{books_of}
-use Rattle.s66_share.specs.LockTokens.{HaveEvery}
+use Rattle.s66_ledger.specs.{LedgerOf, events_of, account_summary}
+use Rattle.s66_share.specs.{books_of, HaveEvery}
 use Rattle.s66_share.proofs.Dealt.{idles}
+use Rattle.s66_pool.specs.{SeatOf, HaveSeats}
 use Rattle.s66_pool.proofs.Collecting.{books_in, collects, none-left, have-every, seats-agree, seats-splits}
 use Rattle.s66_pool.proofs.hub.Hub.close.Goals as goal
 

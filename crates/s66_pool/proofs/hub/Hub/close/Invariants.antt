@@ -1,5 +1,5 @@
 use Rattle.std.proofs.Common.{◌≡◌, ◌++◌, All, vec_len}
-use Rattle.s66_share.specs.LockTokens.{IsIdle}
+use Rattle.s66_share.specs.{IsIdle}
 use Rattle.s66_pool.proofs.Collecting.{books_in}
 use Rattle.s66_pool.proofs.hub.Hub.close.Given as goal
 

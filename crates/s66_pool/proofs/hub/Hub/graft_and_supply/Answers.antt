@@ -1,9 +1,8 @@
 use Rattle.std.proofs.Common.{◌≡◌, ◌+◌, ap, ◌∙◌, arith}
-use Rattle.s66_isa.specs.Lists.{weigh}
-use Rattle.s66_ledger.specs.Ledgers.{LedgerOf, account_summary}
-use Rattle.s66_share.specs.LockTokens.{book}
-use Rattle.s66_share.specs.SeatViews.{renewed}
-use Rattle.s66_pool.specs.Hubs.{SeatOf}
+use Rattle.s66_isa.specs.{weigh}
+use Rattle.s66_ledger.specs.{LedgerOf, account_summary}
+use Rattle.s66_share.specs.{book, renewed}
+use Rattle.s66_pool.specs.{SeatOf}
 use Rattle.s66_pool.proofs.SeatEvents.{number_within, renewed-agrees, follows-at, gave-book}
 use Rattle.s66_pool.proofs.AfterCalls.{seat-keeps, grafted, graft-refused, keeps-within}
 use Rattle.s66_pool.proofs.Supplied.{graft-keeps, has-grafted-and-supply}

@@ -1,10 +1,9 @@
 use Rattle.std.proofs.Common.{◌≡◌, ap, refl, ◌∙◌}
 use Rattle.std.proofs.lemmas.Result.{IfOk-weaker, on_err_weaker}
-use Rattle.s66_model.specs.LedgerRuns.{Grant, Granted}
-use Rattle.s66_model.specs.Accounts.{SeatRecord, after_event}
-use Rattle.s66_ledger.specs.Ledgers.{account_summary}
-use Rattle.s66_share.specs.LockTokens.{book}
-use Rattle.s66_pool.specs.Hubs.{SeatOf}
+use Rattle.s66_model.specs.{Grant, Granted, SeatRecord, after_event}
+use Rattle.s66_ledger.specs.{account_summary}
+use Rattle.s66_share.specs.{book}
+use Rattle.s66_pool.specs.{SeatOf}
 use Rattle.s66_pool.proofs.SeatEvents.{number_within, follows-at, gave-book}
 use Rattle.s66_pool.proofs.AfterCalls.{seat-keeps, seat-same, same-call, quiet-call, plain-call}
 use Rattle.s66_pool.proofs.hub.Hub.grant.Goals as goal

@@ -2,12 +2,12 @@ use Rattle.std.proofs.Common.{◌≡◌, ℕ, ◌+◌, ◌-◌, ◌++◌, List, 
 use Rattle.std.proofs.lemmas.Grind.{get_or_default_zero}
 use Rattle.std.proofs.lemmas.List.Elements.{All-nil}
 use Rattle.atomic_table.specs.Seated.{TableId}
-use Rattle.s66_isa.specs.Lists.{rising}
-use Rattle.s66_model.specs.Accounts.{Summary, SeatRecord, opened, account_at}
-use Rattle.s66_ledger.specs.Ledgers.{LedgerOf, account_summary}
-use Rattle.s66_share.specs.SeatViews.{all_opened}
-use Rattle.s66_pool.specs.Hubs.{SeatOf}
+use Rattle.s66_isa.specs.{rising}
+use Rattle.s66_model.specs.{Summary, SeatRecord, opened, account_at}
+use Rattle.s66_ledger.specs.{LedgerOf, account_summary}
+use Rattle.s66_share.specs.{all_opened}
 use Rattle.s66_share.proofs.Dealt.{idles}
+use Rattle.s66_pool.specs.{SeatOf}
 use Rattle.s66_pool.proofs.Dealing.{account-count, books_from, seats_of, some-left, first-left, rest-left, dealt, all-dealt, all-here, seats-opened}
 use Rattle.s66_pool.proofs.hub.Hub.new.Goals as goal
 

@@ -1,7 +1,6 @@
 use Rattle.std.proofs.Common.{◌≡◌, ◌+◌, ◌-◌, ◌++◌, All, vec_len, vec_capacity}
-use Rattle.s66_ledger.specs.Ledgers.{account_summary}
-use Rattle.s66_share.specs.SeatViews.{all_opened}
-use Rattle.s66_share.specs.LockTokens.{IsIdle}
+use Rattle.s66_ledger.specs.{account_summary}
+use Rattle.s66_share.specs.{all_opened, IsIdle}
 use Rattle.s66_pool.proofs.Dealing.{books_from, seats_of}
 use Rattle.s66_pool.proofs.hub.Hub.new.Given as goal
 

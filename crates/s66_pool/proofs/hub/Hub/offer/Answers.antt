@@ -1,7 +1,7 @@
 use Rattle.std.proofs.Common.{rules, ◌≡◌, ap, ◌∙◌}
-use Rattle.s66_ledger.specs.Ledgers.{account_summary}
-use Rattle.s66_share.specs.LockTokens.{book}
-use Rattle.s66_pool.specs.Hubs.{SeatOf}
+use Rattle.s66_ledger.specs.{account_summary}
+use Rattle.s66_share.specs.{book}
+use Rattle.s66_pool.specs.{SeatOf}
 use Rattle.s66_pool.proofs.SeatEvents.{number_within, follows-at, gave-book, gave-opened}
 use Rattle.s66_pool.proofs.AfterCalls.{seat-keeps, seat-reads, seat-same, same-call, other-keeps, other-offered, stated-follows, stated-splits, stated-offered, stated-known}
 use Rattle.s66_pool.proofs.hub.Hub.offer.Goals as goal

@@ -1,7 +1,7 @@
 use Rattle.std.proofs.Common.{ap, ◌∙◌}
-use Rattle.s66_ledger.specs.Ledgers.{account_summary}
-use Rattle.s66_share.specs.LockTokens.{book}
-use Rattle.s66_pool.specs.Hubs.{SeatOf}
+use Rattle.s66_ledger.specs.{account_summary}
+use Rattle.s66_share.specs.{book}
+use Rattle.s66_pool.specs.{SeatOf}
 use Rattle.s66_pool.proofs.SeatEvents.{number_within, follows-at, gave-book}
 use Rattle.s66_pool.proofs.AfterCalls.{seat-keeps}
 use Rattle.s66_pool.proofs.Supplied.{supply-keeps, has-supply}

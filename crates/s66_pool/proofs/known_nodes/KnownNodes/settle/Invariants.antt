@@ -1,5 +1,5 @@
 use Rattle.std.proofs.Common.{◌≡◌, length}
-use Rattle.s66_pool.specs.Parts.{IsAt}
+use Rattle.s66_pool.specs.{IsAt}
 use Rattle.s66_pool.proofs.known_nodes.KnownNodes.settle.Given as goal
 
 abbrev pub invariant-loop-entry : goal.invariant-loop-entry

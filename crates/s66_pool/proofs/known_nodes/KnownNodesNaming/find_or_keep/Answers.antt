@@ -1,6 +1,6 @@
 use Rattle.std.proofs.Common.{◌≡◌, ◌⊎◌, ◌∙◌, inl, inr, subst}
-use Rattle.s66_isa.specs.Lists.{Among}
-use Rattle.s66_node.specs.MarkTables.{MarkTable}
+use Rattle.s66_isa.specs.{Among}
+use Rattle.s66_node.specs.{MarkTable}
 use Rattle.s66_pool.proofs.known_nodes.KnownNodesNaming.find_or_keep.Goals as goal
 
 pub returns-clause-kept : goal.returns-clause-kept

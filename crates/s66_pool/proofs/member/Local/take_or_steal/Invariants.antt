@@ -1,5 +1,5 @@
 use Rattle.std.proofs.Common.{◌≡◌, vec_len}
-use Rattle.s66_pool.specs.Workers.{IsSameLocal}
+use Rattle.s66_pool.specs.{IsSameLocal}
 use Rattle.s66_pool.proofs.member.Local.take_or_steal.Given as goal
 
 abbrev pub invariant-loop-i : goal.invariant-loop-i

@@ -1,6 +1,6 @@
 use Rattle.std.proofs.Common.{◌≡◌, All, sym, ap, subst, length, arith}
-use Rattle.s66_model.specs.Timing.{Problem}
-use Rattle.s66_node.specs.MarkTables.{MarkTable}
+use Rattle.s66_model.specs.{Problem}
+use Rattle.s66_node.specs.{MarkTable}
 use Rattle.s66_pool.proofs.PartSteps.{opens}
 use Rattle.s66_pool.proofs.shared_marks.SharedMarks.new.Goals as goal
 

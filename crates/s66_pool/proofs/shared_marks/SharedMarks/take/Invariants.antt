@@ -1,4 +1,4 @@
-use Rattle.s66_pool.specs.Parts.{IsAt}
+use Rattle.s66_pool.specs.{IsAt}
 use Rattle.s66_pool.proofs.shared_marks.SharedMarks.take.Given as goal
 
 abbrev pub invariant-loop : goal.invariant-loop
