@@ -1,12 +1,7 @@
 -- Two results of an instruction in the same register come equally late, so that either may stand for both on a path.
 use Rattle.std.proofs.Common.{ℕ, ◌≡◌, ◌∙◌, true, false, true≢false, List, [], ◌∷◌, ◌++◌, refl, sym, ap, subst, inl, inr, map}
-use Rattle.s66_isa.specs.declared.instr.Instr.{Instr}
-use Rattle.s66_isa.specs.declared.instr.Memory.{Memory}
+use Rattle.s66_isa.specs.{Instr, Memory, Profile, Reg, Among, Write, row, hold_of, held_registers, loaded_registers, memory_of, same_reg, a_reg, x_reg}
 use Rattle.s66_isa.specs.declared.instr.Memory.TheVariants as memory
-use Rattle.s66_isa.specs.declared.profile.Profile.{Profile}
-use Rattle.s66_isa.specs.declared.reg.Reg.{Reg}
-use Rattle.s66_isa.specs.Lists.{Among}
-use Rattle.s66_isa.specs.Table.{Write, row, hold_of, held_registers, loaded_registers, memory_of, same_reg, a_reg, x_reg}
 use Rattle.s66_isa.proofs.Writes.{held_write, loaded_write, load-holds}
 
 abbrev pub AreAlike : List Write → Type 0

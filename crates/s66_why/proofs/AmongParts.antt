@@ -1,7 +1,7 @@
 -- What is in a list that is joined of parts, as the stretches of all instructions, is in one of the parts.
 use Rattle.std.proofs.Common.{ℕ, ◌≤◌, ◌≡◌, ◌∙◌, List, [], ◌∷◌, Bool, true, if◌then◌else◌, refl, sym, arith, inl, inr, flat_map}
 use Rattle.std.proofs.lemmas.Bool.{cases_Bool, cond-true, cond-false}
-use Rattle.s66_isa.specs.Lists.{Among, greatest, tally}
+use Rattle.s66_isa.specs.{Among, greatest, tally}
 use Rattle.s66_isa.proofs.Lists.{cases_le, split-among}
 
 pub among-flat : {X Y : Type 0} (f : Y → List X) (x : X) (ys : List Y) → Among x (flat_map f ys) → (y : Y) × Among y ys × Among x (f y)

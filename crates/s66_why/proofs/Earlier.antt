@@ -1,8 +1,8 @@
 -- A loop goes over points with the first first; what it has found is about those so far, the newest first.
 use Rattle.std.proofs.Common.{ℕ, ◌+◌, ◌<◌, ◌≡◌, List, [], ◌∷◌, ◌++◌, ◌∙◌, ap, sym, length, take, get_or, map, refl, reverse}
 use Rattle.std.proofs.lemmas.List.{take_more, reverse-append}
-use Rattle.s66_isa.specs.Table.{Row}
-use Rattle.s66_model.specs.Timing.{Problem, Point, ResultAt, row_at, point, point_of, result_at}
+use Rattle.s66_isa.specs.{Row}
+use Rattle.s66_model.specs.{Problem, Point, ResultAt, row_at, point, point_of, result_at}
 
 pub earlier-more : {X : Type 0} (xs : List X) (i : ℕ) (x : X) → i < length xs → x ≡ get_or xs i x → reverse (take (i + 1) xs) ≡ x ∷ reverse (take i xs)
 earlier-more xs i x lt is =

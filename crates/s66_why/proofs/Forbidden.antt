@@ -1,25 +1,17 @@
 -- The rule of each stretch forbids a minor cycle less.
-use Rattle.std.proofs.Common.{ℕ, ◌+◌, ◌-◌, ◌≤◌, ◌<◌, ◌≡◌, ◌∙◌, ◌==◌, max, nat_lt, true, false, true≢false, List, [], ◌∷◌, ◌++◌, flat_map, length, map, refl, ap, sym, subst, arith, inl, inr}
-use Rattle.std.proofs.lemmas.Bool.{and_from, and_parts, cases_Bool, cond-true, cond-false, eq-eqb, eqb-true, eqb-false, ltb-true, lt-ltb}
-use Rattle.s66_isa.specs.declared.instr.Kind.{Kind}
-use Rattle.s66_isa.specs.declared.limits.TheConstants.{BLOCK_LIMIT}
-use Rattle.s66_isa.specs.declared.reg.Reg.{Reg}
-use Rattle.s66_isa.specs.Lists.{Among, greatest, tally}
-use Rattle.s66_isa.specs.Table.{Write, has_reg, memory_pair, same_kind}
+use Rattle.std.proofs.Common.{ℕ, ◌+◌, ◌-◌, ◌≤◌, ◌<◌, ◌≡◌, ◌∙◌, ◌==◌, max, nat_lt, true, false, true≢false, List, [], ◌∷◌, ◌++◌, flat_map, length, map, refl, ap, sym, subst, arith, inl, inr, eq-eqb}
+use Rattle.std.proofs.Common.{eqb-true, ltb-true, lt-ltb}
+use Rattle.std.proofs.lemmas.Bool.{and_from, and_parts, cases_Bool, cond-true, cond-false, eqb-false}
+use Rattle.s66_isa.specs.{Kind, BLOCK_LIMIT, Reg, Among, greatest, tally, Write, has_reg, memory_pair, same_kind}
 use Rattle.s66_isa.proofs.Lists.{cases_le, le-greatest, among-map, split-among}
-use Rattle.s66_model.specs.Timing.{Problem, Point, ResultAt, CanIssue, IsIssue, busy_at, copies, done_at, done_of, last_done, memory_wait, point, point_of, points_after, points_of, readers_wait, result_at, slot_of, start_of}
+use Rattle.s66_model.specs.{Problem, Point, ResultAt, CanIssue, IsIssue, busy_at, copies, done_at, done_of, last_done, memory_wait, point, point_of, points_after, points_of, readers_wait, result_at}
+use Rattle.s66_model.specs.{slot_of, start_of}
 use Rattle.s66_model.proofs.Issue.{issue-is}
 use Rattle.s66_model.proofs.PointTimes.{point_of-number}
-use Rattle.s66_time.specs.ClockWords.{InTurn}
+use Rattle.s66_time.specs.{InTurn}
 use Rattle.s66_time.proofs.Clocks.{in-turn}
-use Rattle.s66_why.specs.declared.cause.Cause.{Cause}
-use Rattle.s66_why.specs.declared.cause.Cause.TheVariants.{Writes, Takes, References, Reads}
-use Rattle.s66_why.specs.declared.cause.Holder.{Holder}
-use Rattle.s66_why.specs.declared.stretch.Conflict.{Conflict}
-use Rattle.s66_why.specs.declared.stretch.Conflict.TheVariants.{First, Second, Third}
-use Rattle.s66_why.specs.declared.stretch.Stretch.{Stretch}
-use Rattle.s66_why.specs.Why.{lets_go, holder, nobody, soonest, first_holder, second_holder, third_holder, or_else, slot, stretch, first_stretch, second_stretch, third_stretch, stretches_at}
-use Rattle.s66_why.specs.Forbids.{KeepsFromIssue, IsKeptBack, IsForbidden, AreFromOne}
+use Rattle.s66_why.specs.{Cause, Writes, Takes, References, Reads, Holder, Conflict, First, Second, Third, Stretch, lets_go, holder, nobody, soonest, first_holder, second_holder, third_holder}
+use Rattle.s66_why.specs.{or_else, slot, stretch, first_stretch, second_stretch, third_stretch, stretches_at, KeepsFromIssue, IsKeptBack, IsForbidden, AreFromOne}
 use Rattle.s66_why.proofs.AmongParts.{among-flat, greatest-met, greatest-passes, tally-le}
 use Rattle.s66_why.proofs.Found.{ArePositive, NoneDone, found-or-none, or_else-first, or_else-second, soonest-is}
 

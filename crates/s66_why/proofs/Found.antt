@@ -1,14 +1,10 @@
 -- Of the points that let go at a time the one of the lowest number is found, if there is one.
-use Rattle.std.proofs.Common.{ℕ, ◌≤◌, ◌≡◌, ◌⊎◌, ◌∙◌, ◌&&◌, ◌||◌, ◌==◌, not, nat_lt, Bool, true, false, min, List, [], ◌∷◌, refl, ap, sym, subst, arith, inl, inr}
-use Rattle.std.proofs.lemmas.Bool.{and_from, and_left, and_right, cases_Bool, cond-true, cond-false, eq-eqb, eqb-false, ne_eqb, not_from_false, not_from_true, or_parts}
-use Rattle.s66_isa.specs.declared.reg.Reg.{Reg}
-use Rattle.s66_isa.specs.Lists.{Among}
+use Rattle.std.proofs.Common.{ℕ, ◌≤◌, ◌≡◌, ◌⊎◌, ◌∙◌, ◌&&◌, ◌||◌, ◌==◌, not, nat_lt, Bool, true, false, min, List, [], ◌∷◌, refl, ap, sym, subst, arith, inl, inr, eq-eqb, ne_eqb}
+use Rattle.std.proofs.lemmas.Bool.{and_from, and_left, and_right, cases_Bool, cond-true, cond-false, eqb-false, not_from_false, not_from_true, or_parts}
+use Rattle.s66_isa.specs.{Reg, Among}
 use Rattle.s66_isa.proofs.Lists.{cases_le}
-use Rattle.s66_model.specs.Timing.{Point}
-use Rattle.s66_why.specs.declared.cause.Cause.{Cause}
-use Rattle.s66_why.specs.declared.cause.Cause.TheVariants.{Writes}
-use Rattle.s66_why.specs.declared.cause.Holder.{Holder}
-use Rattle.s66_why.specs.Why.{lets_go, lower, lowest, holder, sooner, or_else, soonest}
+use Rattle.s66_model.specs.{Point}
+use Rattle.s66_why.specs.{Cause, Writes, Holder, lets_go, lower, lowest, holder, sooner, or_else, soonest}
 
 abbrev pub ArePositive : List Point → Type 0
 ArePositive s = (q : Point) → Among q s → 1 ≤ q.number

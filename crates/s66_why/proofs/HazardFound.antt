@@ -1,13 +1,11 @@
 -- Two instructions must keep their order exactly when there is a hazard between them.
-use Rattle.std.proofs.Common.{◌≡◌, ◌∙◌, ◌||◌, Bool, true, false, List, [], ◌∷◌, ◌++◌, ap, ap₂, arith, length, map, nat_lt, refl, sym}
-use Rattle.std.proofs.lemmas.Bool.{cond_both, lt-ltb}
-use Rattle.s66_isa.specs.declared.instr.Memory.{Memory}
+use Rattle.std.proofs.Common.{◌≡◌, ◌∙◌, ◌||◌, Bool, true, false, List, [], ◌∷◌, ◌++◌, ap, ap₂, arith, length, map, nat_lt, refl, sym, lt-ltb}
+use Rattle.std.proofs.lemmas.Bool.{cond_both}
+use Rattle.s66_isa.specs.{Memory, has_reg, memory_of, memory_pair, reads_of, results_of}
 use Rattle.s66_isa.specs.declared.instr.Memory.TheVariants as memory
-use Rattle.s66_isa.specs.Table.{Instr, Reg, has_reg, memory_of, memory_pair, reads_of, results_of}
-use Rattle.s66_model.specs.Dependence.{conflict, share}
-use Rattle.s66_why.specs.declared.hazard.Access.{Access}
-use Rattle.s66_why.specs.declared.hazard.Access.TheVariants.{ReadAfterWrite, WriteAfterRead, WriteAfterWrite}
-use Rattle.s66_why.specs.Hazards.{accesses_of_memory, common, hazards, memory_hazards, register_hazards, registers_between}
+use Rattle.s66_isa.specs.Table.{Instr, Reg}
+use Rattle.s66_model.specs.{conflict, share}
+use Rattle.s66_why.specs.{Access, ReadAfterWrite, WriteAfterRead, WriteAfterWrite, accesses_of_memory, common, hazards, memory_hazards, register_hazards, registers_between}
 
 -- there is something in the list
 abbrev some : {X : Type 0} → List X → Bool

@@ -1,11 +1,9 @@
 -- No result of an instruction is done after its last one.
 use Rattle.std.proofs.Common.{◌≤◌, cond, arith}
 use Rattle.std.proofs.lemmas.Bool.{cond_both}
-use Rattle.s66_isa.specs.declared.reg.Reg.{Reg}
-use Rattle.s66_isa.specs.Lists.{greatest}
-use Rattle.s66_isa.specs.Table.{same_reg}
+use Rattle.s66_isa.specs.{Reg, greatest, same_reg}
 use Rattle.s66_isa.proofs.Lists.{greatest-le-greatest}
-use Rattle.s66_model.specs.Timing.{Point, ResultAt, done_at}
+use Rattle.s66_model.specs.{Point, ResultAt, done_at}
 
 pub done-le-last : (r : Reg) (p : Point) → done_at p r ≤ greatest (λ (d : ResultAt). d.time) p.results
 done-le-last r p =

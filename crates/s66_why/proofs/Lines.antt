@@ -1,15 +1,10 @@
 -- Lines of stretches appended one after the other, and their sums, as `push_all_lines` makes them.
-use Rattle.std.proofs.Common.{ℕ, ◌+◌, ◌<◌, ◌≡◌, List, [], ◌∷◌, ◌++◌, ◌∙◌, ap, arith, append_assoc, flat_map, get_or, length, refl, sym, take, if◌then◌else◌, ◌==◌, ◌-◌}
+use Rattle.std.proofs.Common.{ℕ, ◌+◌, ◌<◌, ◌≡◌, List, [], ◌∷◌, ◌++◌, ◌∙◌, ap, arith, append_assoc, flat_map, get_or, length, refl, sym, take, if◌then◌else◌, ◌==◌, ◌-◌, append-nil}
 use Rattle.std.proofs.lemmas.Grind.{flat_map-append}
-use Rattle.std.proofs.lemmas.List.{append-nil, take_more}
+use Rattle.std.proofs.lemmas.List.{take_more}
+use Rattle.s66_isa.specs.{Write}
 use Rattle.s66_isa.proofs.Lists.{weigh-append}
-use Rattle.s66_isa.specs.Table.{Write}
-use Rattle.s66_why.specs.declared.stretch.Conflict.{Conflict}
-use Rattle.s66_why.specs.declared.stretch.Conflict.TheVariants.{First, Second, Third}
-use Rattle.s66_why.specs.declared.stretch.Stretch.{Stretch}
-use Rattle.s66_why.specs.declared.lost.Lost.{Lost}
-use Rattle.s66_why.specs.Sums.{sum_of, sums_line}
-use Rattle.s66_why.specs.Why.{conflict_number, lost, lost_line}
+use Rattle.s66_why.specs.{Conflict, First, Second, Third, Stretch, Lost, sum_of, sums_line, conflict_number, lost, lost_line}
 
 pub lines-more : (line : Stretch → List ℕ) (out mid new : List ℕ) (xs ys : List Stretch) → mid ≡ out ++ flat_map line xs → new ≡ mid ++ flat_map line ys → new ≡ out ++ flat_map line (xs ++ ys)
 lines-more line out mid new xs ys first more =

@@ -1,20 +1,15 @@
 -- The numbers that stretches and steps have are those of instructions of the block, so they can be printed with their texts.
-use Rattle.std.proofs.Common.{ℕ, suc, ◌+◌, ◌≤◌, ◌<◌, ◌≡◌, ◌∙◌, List, [], ◌∷◌, ◌++◌, ap, arith, drop, get_or, inl, inr, length, length-append, refl, reverse, subst, sym, take}
+use Rattle.std.proofs.Common.{ℕ, suc, ◌+◌, ◌≤◌, ◌<◌, ◌≡◌, ◌∙◌, List, [], ◌∷◌, ◌++◌, ap, arith, drop, get_or, inl, inr, length, length-append, refl, reverse, subst, sym, take, take-append-drop}
 use Rattle.std.proofs.lemmas.Bool.{cases_Bool, cond-false, cond-true}
-use Rattle.std.proofs.lemmas.List.{reverse-append, take-append-drop}
-use Rattle.s66_isa.specs.declared.limits.TheConstants.{BLOCK_LIMIT}
-use Rattle.s66_isa.specs.Lists.{Among}
+use Rattle.std.proofs.lemmas.List.{reverse-append}
+use Rattle.s66_isa.specs.{BLOCK_LIMIT, Among}
 use Rattle.s66_isa.proofs.Lists.{among-front, among-rest, split-among}
-use Rattle.s66_model.specs.Timing.{Problem, Point, point_of, points_after, points_of}
+use Rattle.s66_model.specs.{Problem, Point, point_of, points_after, points_of}
 use Rattle.s66_model.proofs.PointTimes.{point_of-number, points_after-append}
-use Rattle.s66_why.specs.declared.path.Milestone.{Milestone}
-use Rattle.s66_why.specs.declared.path.Step.{Step}
-use Rattle.s66_why.specs.declared.path.Wait.{Wait}
-use Rattle.s66_why.specs.declared.stretch.Stretch.{Stretch}
-use Rattle.s66_why.specs.Why.{is_linked, next_wait, passes, steps, steps_from, stretches, stretches_at, walk}
+use Rattle.s66_line.proofs.OperationLaw.{among-at}
+use Rattle.s66_why.specs.{Milestone, Step, Wait, Stretch, is_linked, next_wait, passes, steps, steps_from, stretches, stretches_at, walk}
 use Rattle.s66_why.proofs.Earlier.{earlier-more}
 use Rattle.s66_why.proofs.Forbidden.{all-forbidden, points-met}
-use Rattle.s66_line.proofs.OperationLaw.{among-at}
 
 -- AT PLACES OF LISTS
 

@@ -1,35 +1,23 @@
 -- The path that is printed is one: each of its steps lets the next go on, and what they add is the time.
-use Rattle.std.proofs.Common.{ℕ, ◌+◌, ◌-◌, ◌≤◌, ◌<◌, ◌≡◌, ◌⊎◌, ◌∙◌, ◌==◌, ◌&&◌, Bool, cond, max, nat_lt, true, false, true≢false, List, [], ◌∷◌, ◌++◌, if◌then◌else◌, length, map, reverse, refl, ap, sym, subst, arith, inl, inr}
-use Rattle.std.proofs.lemmas.Bool.{and_cases, and_from, and_parts, cases_Bool, cond-true, cond-false, eq-eqb, eqb-true, eqb-false, ltb-false, ltb-true, ne_eqb, or_cases, or_left, or_parts, or_right}
+use Rattle.std.proofs.Common.{ℕ, ◌+◌, ◌-◌, ◌≤◌, ◌<◌, ◌≡◌, ◌⊎◌, ◌∙◌, ◌==◌, ◌&&◌, Bool, cond, max, nat_lt, true, false, true≢false, List, [], ◌∷◌, ◌++◌, if◌then◌else◌, length, map, reverse, refl, ap}
+use Rattle.std.proofs.Common.{sym, subst, arith, inl, inr, eq-eqb, eqb-true, ltb-false, ltb-true, ne_eqb}
+use Rattle.std.proofs.lemmas.Bool.{and_cases, and_from, and_parts, cases_Bool, cond-true, cond-false, eqb-false, or_cases, or_left, or_parts, or_right}
 use Rattle.std.proofs.lemmas.List.{reverse-append}
-use Rattle.s66_isa.specs.declared.reg.Reg.{Reg}
-use Rattle.s66_isa.specs.Lists.{Among, greatest, has, weigh}
-use Rattle.s66_isa.specs.Table.{Write, same_kind, same_reg}
+use Rattle.s66_isa.specs.{Reg, Among, greatest, has, weigh, Write, same_kind, same_reg}
 use Rattle.s66_isa.proofs.Lists.{cases_le, greatest-le, greatest-le-greatest, among-rest, le-greatest, weigh-reverse}
 use Rattle.s66_isa.proofs.SameRegister.{same_reg-self, same_reg-true}
-use Rattle.s66_model.specs.Timing.{Problem, Point, ResultAt, done_at, done_of, end_of, free_after, last_done, parcel_of, point, point_of, points_after, points_of, readers_wait, result_at, total}
-use Rattle.s66_model.specs.Packing.{fits_at}
+use Rattle.s66_model.specs.{Problem, Point, ResultAt, done_at, done_of, end_of, free_after, last_done, parcel_of, point, point_of, points_after, points_of, readers_wait, result_at, total, fits_at}
 use Rattle.s66_model.proofs.ChainBound.{last-is_greatest}
 use Rattle.s66_model.proofs.Growth.{fits_at-ge, none-first}
 use Rattle.s66_model.proofs.PointTimes.{greatest-stays, hold-le-free, point_of-number, points_after-append}
-use Rattle.s66_why.specs.declared.cause.Cause.{Cause}
-use Rattle.s66_why.specs.declared.cause.Cause.TheVariants.{Writes, Takes, References, Reads, Ends}
-use Rattle.s66_why.specs.declared.cause.Holder.{Holder}
-use Rattle.s66_why.specs.declared.path.Link.{Link}
-use Rattle.s66_why.specs.declared.path.Link.TheVariants.{Held, InLine}
-use Rattle.s66_why.specs.declared.path.Milestone.{Milestone}
-use Rattle.s66_why.specs.declared.path.Step.{Step}
-use Rattle.s66_why.specs.declared.path.Wait.{Wait}
-use Rattle.s66_why.specs.declared.stretch.Conflict.{Conflict}
-use Rattle.s66_why.specs.declared.stretch.Conflict.TheVariants.{First, Second, Third}
-use Rattle.s66_why.specs.Why.{before, before_issue, before_start, decides, first_holder, holder, is_held, lets_go, next_wait, second_holder, slot, steps, steps_from, third_holder, walk}
-use Rattle.s66_why.specs.Forbids.{AreFromOne}
-use Rattle.s66_why.specs.Paths.{AddsUp, AreOnce, WaitGoesOn, IsPath, Leads, LetsGoWith, made_at, unhindered}
+use Rattle.s66_model.proofs.WrittenOrders.{greatest-map}
+use Rattle.s66_why.specs.{Cause, Writes, Takes, References, Reads, Ends, Holder, Link, Held, InLine, Milestone, Step, Wait, Conflict, First, Second, Third, before, before_issue, before_start, decides}
+use Rattle.s66_why.specs.{first_holder, holder, is_held, lets_go, next_wait, second_holder, slot, steps, steps_from, third_holder, walk, AreFromOne, AddsUp, AreOnce, WaitGoesOn, IsPath, Leads}
+use Rattle.s66_why.specs.{LetsGoWith, made_at, unhindered}
 use Rattle.s66_why.proofs.Alike.{AreAlike, row-alike}
 use Rattle.s66_why.proofs.AmongParts.{greatest-met}
 use Rattle.s66_why.proofs.Forbidden.{IsHeldBy, IsPlaced, first-held, placed, positive-after, second-held, third-held}
 use Rattle.s66_why.proofs.Found.{ArePositive, found-or-none}
-use Rattle.s66_model.proofs.WrittenOrders.{greatest-map}
 
 -- LISTS
 

@@ -1,7 +1,7 @@
 -- A timed order has as many points as numbers.
 use Rattle.std.proofs.Common.{◌≡◌, [], arith, length, reverse}
 use Rattle.std.proofs.lemmas.List.{length-reverse}
-use Rattle.s66_model.specs.Timing.{points_of}
+use Rattle.s66_model.specs.{points_of}
 use Rattle.s66_model.proofs.PointTimes.{points_after-length}
 use Rattle.s66_time.specs.TimedOrder.{TimedOrder}
 

@@ -1,10 +1,8 @@
 -- A run of equal letters is written over the front of others, as `draw` fills a row of a chart.
-use Rattle.std.proofs.Common.{ℕ, zero, suc, ◌+◌, ◌-◌, ◌<◌, ◌≤◌, ◌≡◌, List, [], ◌++◌, ◌∷◌, min, replicate, drop, map, refl, ap, arith, inl, inr}
-use Rattle.std.proofs.lemmas.Bool.{cases_lt, cases_eq, lt-ltb, le-ltb, le-leb, lt-leb, eq-eqb, ne_eqb}
 use Rattle.std.specs.List.{range_with_len}
-use Rattle.s66_why.specs.declared.activity.Activity.{Activity}
-use Rattle.s66_why.specs.Chart.{letter}
-use Rattle.s66_why.specs.Runs.{until, runs, IsInOrder}
+use Rattle.std.proofs.Common.{ℕ, zero, suc, ◌+◌, ◌-◌, ◌<◌, ◌≤◌, ◌≡◌, List, [], ◌++◌, ◌∷◌, min, replicate, drop, map, refl, ap, arith, inl, inr, lt-ltb, le-ltb, le-leb, eq-eqb, ne_eqb}
+use Rattle.std.proofs.lemmas.Bool.{cases_lt, cases_eq, lt-leb}
+use Rattle.s66_why.specs.{Activity, letter, until, runs, IsInOrder}
 
 -- past the end of a run the others stay
 until-past : (others : ℕ → ℕ) (letter end from n : ℕ) → end ≤ from → map others (range_with_len from n) ≡ map (until end letter others) (range_with_len from n)

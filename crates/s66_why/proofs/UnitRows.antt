@@ -1,9 +1,7 @@
 -- The rows of the units of a kind, one after the other.
 use Rattle.std.proofs.Common.{ℕ, suc, ◌+◌, ◌-◌, ◌<◌, ◌≡◌, ◌∙◌, List, ◌++◌, ap, append_assoc, arith, sym}
-use Rattle.s66_isa.specs.declared.instr.Kind.{Kind}
-use Rattle.s66_why.specs.declared.work.Work.{Work}
-use Rattle.s66_why.specs.Reservations.{copy_rows, unit_row}
-use Rattle.s66_why.specs.Units.{left_from, taken_from}
+use Rattle.s66_isa.specs.{Kind}
+use Rattle.s66_why.specs.{Work, copy_rows, unit_row, left_from, taken_from}
 
 pub copy-more : (most i width cycles : ℕ) (kind : Kind) (ws mine rest : List Work) (out mid new : List ℕ) → i < most → mine ≡ taken_from 0 ws → rest ≡ left_from 0 ws →
     mid ++ copy_rows (most - i) (i + 1) width cycles kind ws ≡ out → new ≡ mid ++ unit_row width cycles kind (i + 1) mine → new ++ copy_rows (most - (i + 1)) (i + 1 + 1) width cycles kind rest ≡ out

@@ -1,9 +1,10 @@
 -- To be believed: a timed order as a picture: a row for each instruction and for each NO between two of them, a column for each minor cycle.
 use Rattle.std.specs.Prelude.{ℕ, ◌+◌, ◌-◌, Bool, if◌then◌else◌, ◌&&◌, ◌==◌, not, List, [], ◌++◌, codes, decimal, flat_map, length, map, nat_le, nat_lt, replicate}
 use Rattle.std.specs.List.{range_with_len}
-use Rattle.s66_model.specs.Timing.{Point, latest_result, total_of}
-use Rattle.s66_isa.specs.Table.{latency_of}
-use Rattle.s66_time.specs.TimedOrder.{TimedOrder, point_at}
+use Rattle.s66_isa.specs.{latency_of}
+use Rattle.s66_model.specs.{Point, latest_result, total_of}
+use Rattle.s66_time.specs.TimedOrder.{TimedOrder}
+use Rattle.s66_time.specs.{point_at}
 use Rattle.s66_why.specs.declared.activity.Activity.{Activity}
 use Rattle.s66_why.specs.declared.activity.TheConstants.{ISSUES, WAITS, WORKS, WAITS_FOR_READERS, IDLE}
 -- the examples open it, to compute numbers

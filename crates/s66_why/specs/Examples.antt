@@ -1,7 +1,7 @@
 -- Used by examples alone: small blocks with their lines.
 use Rattle.std.specs.Prelude.{[], ◌∷◌, codes}
-use Rattle.s66_isa.specs.Table.{instr}
-use Rattle.s66_line.specs.Blocks.{Block}
+use Rattle.s66_isa.specs.{instr}
+use Rattle.s66_line.specs.{Block}
 
 -- those of one_load
 abbrev pub one_load_lines : Block

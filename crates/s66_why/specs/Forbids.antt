@@ -1,8 +1,7 @@
 -- To be believed: what it is that a cause forbids an instruction to issue, to start or to be done a minor cycle sooner, by the rules of Timing.
 use Rattle.std.specs.Prelude.{ℕ, ◌+◌, ◌-◌, ◌≡◌, ◌≤◌, ◌<◌, true, List, map}
-use Rattle.s66_isa.specs.Lists.{Among, tally}
-use Rattle.s66_isa.specs.Table.{Write, has_reg, memory_pair}
-use Rattle.s66_model.specs.Timing.{Problem, Point, ResultAt, CanIssue, busy_at, copies, done_at, last_done, slot_of}
+use Rattle.s66_isa.specs.{Among, tally, Write, has_reg, memory_pair}
+use Rattle.s66_model.specs.{Problem, Point, ResultAt, CanIssue, busy_at, copies, done_at, last_done, slot_of}
 use Rattle.s66_why.specs.declared.cause.Cause.{Cause}
 use Rattle.s66_why.specs.declared.cause.Cause.TheVariants.{Writes, Takes, References, Reads}
 use Rattle.s66_why.specs.declared.stretch.Conflict.{Conflict}

@@ -1,8 +1,8 @@
 -- To be believed: by which registers, or by memory, an instruction depends on an earlier one, in the words of textbooks.
 use Rattle.std.specs.Prelude.{ℕ, List, [], ◌∷◌, ◌++◌, codes, filter, flat_map, map}
-use Rattle.s66_isa.specs.declared.instr.Memory.{Memory}
+use Rattle.s66_isa.specs.{Memory, has_reg, memory_of, reads_of, results_of}
 use Rattle.s66_isa.specs.declared.instr.Memory.TheVariants as memory
-use Rattle.s66_isa.specs.Table.{Instr, Reg, has_reg, memory_of, reads_of, results_of}
+use Rattle.s66_isa.specs.Table.{Instr, Reg}
 use Rattle.s66_why.specs.declared.hazard.Access.{Access}
 use Rattle.s66_why.specs.declared.hazard.Access.TheVariants.{ReadAfterWrite, WriteAfterRead, WriteAfterWrite}
 use Rattle.s66_why.specs.declared.hazard.Hazard.{Hazard}

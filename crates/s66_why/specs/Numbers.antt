@@ -1,7 +1,7 @@
 -- Used by contracts: numbers that name instructions of a block.
 use Rattle.std.specs.Prelude.{ℕ, ◌≤◌, List, length}
-use Rattle.s66_isa.specs.Lists.{Among}
-use Rattle.s66_line.specs.Blocks.{Block, instrs_of}
+use Rattle.s66_isa.specs.{Among}
+use Rattle.s66_line.specs.{Block, instrs_of}
 use Rattle.s66_why.specs.declared.path.Step.{Step}
 use Rattle.s66_why.specs.declared.stretch.Stretch.{Stretch}
 

@@ -1,9 +1,8 @@
 -- To be believed: what a path is: the instructions that the time of an order comes from, and the minor cycles that each of them adds,
 -- by the rules of Timing.
 use Rattle.std.specs.Prelude.{ℕ, ◌+◌, ◌-◌, ◌<◌, ◌≡◌, ◌⊎◌, true, false, List, [], ◌∷◌, ◌++◌, map, reverse}
-use Rattle.s66_isa.specs.Lists.{has, weigh}
-use Rattle.s66_isa.specs.Table.{Write}
-use Rattle.s66_model.specs.Timing.{Problem, Point, ResultAt, free_after, total}
+use Rattle.s66_isa.specs.{has, weigh, Write}
+use Rattle.s66_model.specs.{Problem, Point, ResultAt, free_after, total}
 use Rattle.s66_why.specs.declared.cause.Cause.{Cause}
 use Rattle.s66_why.specs.declared.cause.Cause.TheVariants.{Writes, Takes, Reads, Ends}
 use Rattle.s66_why.specs.declared.path.Link.{Link}

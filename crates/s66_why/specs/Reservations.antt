@@ -1,13 +1,10 @@
 -- To be believed: which instruction holds each functional unit and each register, as a picture: a row for each, a column for each minor cycle.
 use Rattle.std.specs.Prelude.{ℕ, zero, suc, ◌+◌, ◌-◌, Bool, if◌then◌else◌, ◌&&◌, max, List, [], ◌∷◌, ◌++◌, codes, decimal, flat_map, get_or, length, map, nat_le, nat_lt, replicate, reverse}
 use Rattle.std.specs.List.{range_with_len}
-use Rattle.s66_isa.specs.declared.instr.Kind.{Kind}
-use Rattle.s66_isa.specs.declared.reg.TheConstants.{REGISTER_COUNT}
-use Rattle.s66_isa.specs.KindNames.{kind_name}
-use Rattle.s66_isa.specs.Registers.{register_at}
-use Rattle.s66_isa.specs.Table.{Reg, all_kinds}
-use Rattle.s66_line.specs.Blocks.{Block}
-use Rattle.s66_model.specs.Timing.{Point, done_at, points_of, writes_reg}
+use Rattle.s66_isa.specs.{Kind, REGISTER_COUNT, kind_name, register_at, all_kinds}
+use Rattle.s66_isa.specs.Table.{Reg}
+use Rattle.s66_model.specs.{Point, done_at, points_of, writes_reg}
+use Rattle.s66_line.specs.{Block}
 use Rattle.s66_time.specs.TimedOrder.{TimedOrder}
 use Rattle.s66_why.specs.declared.reservation.Reservation.{Reservation}
 use Rattle.s66_why.specs.declared.reservation.TheConstants.{CONTINUES, FREE}

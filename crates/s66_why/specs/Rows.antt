@@ -1,8 +1,9 @@
 -- Used by contracts within the crate alone: the rows of a chart, after texts or without.
 use Rattle.std.specs.Prelude.{ℕ, if◌then◌else◌, List, [], ◌++◌, Option, None, Some, flat_map, length}
 use Rattle.std.specs.List.{range_with_len}
-use Rattle.s66_line.specs.Blocks.{Block, text_of}
-use Rattle.s66_time.specs.TimedOrder.{TimedOrder, point_at}
+use Rattle.s66_line.specs.{Block, text_of}
+use Rattle.s66_time.specs.TimedOrder.{TimedOrder}
+use Rattle.s66_time.specs.{point_at}
 use Rattle.s66_why.specs.Chart.{has_filler, instruction_row, no_row}
 use Rattle.s66_why.specs.TextChart.{in_places}
 

@@ -1,10 +1,10 @@
 -- To be believed: a chart with the text of each instruction before its row, and a ruler above the rows.
 use Rattle.std.specs.Prelude.{ℕ, ◌+◌, ◌-◌, ◌*◌, ◌/◌, if◌then◌else◌, List, [], ◌++◌, codes, decimal, flat_map, length, replicate}
 use Rattle.std.specs.List.{range_with_len}
-use Rattle.s66_isa.specs.Lists.{greatest}
-use Rattle.s66_isa.specs.Table.{numbers}
-use Rattle.s66_line.specs.Blocks.{Block, instrs_of, text_of}
-use Rattle.s66_time.specs.TimedOrder.{TimedOrder, point_at}
+use Rattle.s66_isa.specs.{greatest, numbers}
+use Rattle.s66_line.specs.{Block, instrs_of, text_of}
+use Rattle.s66_time.specs.TimedOrder.{TimedOrder}
+use Rattle.s66_time.specs.{point_at}
 use Rattle.s66_why.specs.declared.row.TheConstants.{NAME_ROOM}
 use Rattle.s66_why.specs.Chart.{cycles_of, has_filler, instruction_row, no_row}
 

@@ -1,8 +1,7 @@
 -- To be believed: which unit of its kind each instruction of a timed order takes.
 use Rattle.std.specs.Prelude.{ℕ, if◌then◌else◌, List, [], ◌∷◌, filter, map, nat_le, reverse}
-use Rattle.s66_isa.specs.declared.instr.Kind.{Kind}
-use Rattle.s66_isa.specs.Table.{latency_of, same_kind}
-use Rattle.s66_model.specs.Timing.{Point, latest_result, points_of}
+use Rattle.s66_isa.specs.{Kind, latency_of, same_kind}
+use Rattle.s66_model.specs.{Point, latest_result, points_of}
 use Rattle.s66_time.specs.TimedOrder.{TimedOrder}
 use Rattle.s66_why.specs.declared.work.Work.{Work}
 

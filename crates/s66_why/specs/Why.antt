@@ -2,13 +2,10 @@
 --
 -- `FORMATS.md`, under `s66 why`, says from when to when each stretch is, and what is waited for.
 use Rattle.std.specs.Prelude.{ℕ, ◌+◌, ◌-◌, Bool, false, if◌then◌else◌, ◌&&◌, ◌||◌, ◌==◌, not, min, List, [], ◌∷◌, ◌++◌, codes, decimal, flat_map, length, map, nat_lt, replicate, reverse}
-use Rattle.s66_isa.specs.KindNames.{kind_name}
-use Rattle.s66_isa.specs.Lists.{after_blanks, weigh}
-use Rattle.s66_isa.specs.Table.{Reg, Write, same_reg, same_kind, has_reg, memory_pair}
-use Rattle.s66_isa.specs.declared.reg.Bank.{Bank}
-use Rattle.s66_isa.specs.declared.reg.Bank.TheVariants.{A, B, X}
-use Rattle.s66_line.specs.Blocks.{Block, text_of}
-use Rattle.s66_model.specs.Timing.{Point, done_at, end_of, points_of, readers_wait, total}
+use Rattle.s66_isa.specs.{kind_name, after_blanks, weigh, Write, same_reg, same_kind, has_reg, memory_pair, Bank, A, B, X}
+use Rattle.s66_isa.specs.Table.{Reg}
+use Rattle.s66_model.specs.{Point, done_at, end_of, points_of, readers_wait, total}
+use Rattle.s66_line.specs.{Block, text_of}
 use Rattle.s66_time.specs.TimedOrder.{TimedOrder}
 use Rattle.s66_why.specs.TextChart.{in_places, text_width}
 use Rattle.s66_why.specs.declared.cause.Cause.{Cause}

@@ -1,9 +1,8 @@
 //! The letters of a chart, and from when to when an instruction has which.
 
 ghost use Rattle.std.specs.Prelude.{◌≡◌, ◌<◌, length};
-ghost use Rattle.s66_time.specs.TimedOrder.{point_at};
-ghost use Rattle.s66_why.specs.Chart.{activity, filler_activity};
-ghost use Rattle.s66_why.specs.Runs.{IsInOrder};
+ghost use Rattle.s66_time.specs.{point_at};
+ghost use Rattle.s66_why.specs.{activity, filler_activity, IsInOrder};
 
 use s66_time::Timed;
 

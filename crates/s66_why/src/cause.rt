@@ -1,7 +1,7 @@
 //! What an instruction waits for, and which one it is waited for of (`Cause`, `Holder`).
 
 ghost use Rattle.std.specs.Prelude.{◌≡◌};
-ghost use Rattle.s66_why.specs.Why.{lower, sooner, or_else, nobody};
+ghost use Rattle.s66_why.specs.{lower, sooner, or_else, nobody};
 
 use s66_isa::{Kind, Memory, Reg};
 

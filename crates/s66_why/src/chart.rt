@@ -3,11 +3,8 @@
 
 ghost use Rattle.std.specs.Prelude.{◌≡◌, ◌*◌, ◌^◌, ◌<◌, ◌≤◌, ◌++◌, OnOk, flat_map, length};
 ghost use Rattle.std.specs.List.{range_with_len};
-ghost use Rattle.s66_line.specs.Blocks.{instrs_of};
-ghost use Rattle.s66_line.specs.declared.limits.TheConstants.{TEXT_LIMIT};
-ghost use Rattle.s66_why.specs.Chart.{chart_text, has_filler, instruction_row};
-ghost use Rattle.s66_why.specs.Rows.{before_row, no_row_in, row_in, rows_in};
-ghost use Rattle.s66_why.specs.TextChart.{chart_in_places, in_ten, ruler, text_chart};
+ghost use Rattle.s66_line.specs.{instrs_of, TEXT_LIMIT};
+ghost use Rattle.s66_why.specs.{chart_text, has_filler, instruction_row, before_row, no_row_in, row_in, rows_in, chart_in_places, in_ten, ruler, text_chart};
 
 use crate::activity::Activity;
 use crate::places::{push_blanks, push_in_places, text_width};

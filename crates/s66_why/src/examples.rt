@@ -2,15 +2,10 @@
 //! and the functions do nothing.
 
 ghost use Rattle.std.specs.Prelude.{[], ◌∷◌, ◌≡◌, ◌++◌, false, true, codes};
-ghost use Rattle.s66_isa.specs.Table.{instr};
-ghost use Rattle.s66_model.specs.Examples.{standard_problem, first_order, one_load, latest_writer, loads_then_store, third_order, two_readers, held_load, packing_gap, three_multiplies};
-ghost use Rattle.s66_line.specs.Blocks.{Block as BlockOf};
-ghost use Rattle.s66_why.specs.Chart.{chart_text};
-ghost use Rattle.s66_why.specs.Examples.{one_load_lines, packing_gap_lines};
-ghost use Rattle.s66_why.specs.Hazards.{hazards, hazards_text};
-ghost use Rattle.s66_why.specs.Reservations.{units_chart};
-ghost use Rattle.s66_why.specs.TextChart.{text_chart};
-ghost use Rattle.s66_why.specs.Why.{why_text};
+ghost use Rattle.s66_isa.specs.{instr};
+ghost use Rattle.s66_model.specs.{standard_problem, first_order, one_load, latest_writer, loads_then_store, third_order, two_readers, held_load, packing_gap, three_multiplies};
+ghost use Rattle.s66_line.specs.{Block as BlockOf};
+ghost use Rattle.s66_why.specs.{chart_text, one_load_lines, packing_gap_lines, hazards, hazards_text, units_chart, text_chart, why_text};
 
 /// Each block in the order in which it is written: an instruction that waits for a load; a `NO`, also after an instruction of two
 /// parcels; a result that waits for readers and holds its unit; a loaded one that waits and holds no unit; and an instruction

@@ -3,9 +3,7 @@
 
 ghost use Rattle.std.specs.Prelude.{◌≡◌, ◌++◌, OnOk, codes, flat_map, map, option_to_list};
 ghost use Rattle.s66_isa.specs.Table.{Reg as RegOf};
-ghost use Rattle.s66_why.specs.Hazards.{access_name, accesses_of_memory, common, hazard_text, hazards, hazards_text, memory_hazards, place_name};
-ghost use Rattle.s66_why.specs.declared.hazard.Hazard.{Hazard as HazardOf};
-ghost use Rattle.s66_why.specs.declared.hazard.Place.TheVariants.{Register};
+ghost use Rattle.s66_why.specs.{access_name, accesses_of_memory, common, hazard_text, hazards, hazards_text, memory_hazards, place_name, Hazard as HazardOf, Register};
 
 use crate::text::push_register_name;
 use s66_isa::{Instr, Memory, Reg, has_register};

@@ -1,8 +1,8 @@
 //! Which earlier instruction holds one: at its issue, at its start, and for each of its results.
 
 ghost use Rattle.std.specs.Prelude.{◌≡◌, map, reverse};
-ghost use Rattle.s66_isa.specs.Table.{Write as WriteOf};
-ghost use Rattle.s66_why.specs.Why.{lowest, holder, nobody, soonest, first_holder, second_holder, third_holder};
+ghost use Rattle.s66_isa.specs.{Write as WriteOf};
+ghost use Rattle.s66_why.specs.{lowest, holder, nobody, soonest, first_holder, second_holder, third_holder};
 
 use crate::cause::{Cause, Holder, lower};
 use crate::placed::{PlacedInstr, readers_wait};

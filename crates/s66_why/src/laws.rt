@@ -1,16 +1,10 @@
 //! What is true of all that is written: contracts of functions that do nothing.
 
 ghost use Rattle.std.specs.Prelude.{ℕ, List, ◌≡◌, ◌≤◌, length, nat_lt};
-ghost use Rattle.s66_isa.specs.Lists.{Among};
-ghost use Rattle.s66_isa.specs.declared.limits.TheConstants.{BLOCK_LIMIT};
+ghost use Rattle.s66_isa.specs.{Among, BLOCK_LIMIT};
 ghost use Rattle.s66_isa.specs.Table.{Instr};
-ghost use Rattle.s66_model.specs.Dependence.{conflict};
-ghost use Rattle.s66_model.specs.Timing.{Problem, points_of, point_of};
-ghost use Rattle.s66_why.specs.Forbids.{AreFromOne, IsForbidden};
-ghost use Rattle.s66_why.specs.Hazards.{hazards};
-ghost use Rattle.s66_why.specs.Paths.{AddsUp, AreOnce};
-ghost use Rattle.s66_why.specs.Why.{stretches_at};
-ghost use Rattle.s66_why.specs.declared.stretch.Stretch.{Stretch as StretchOf};
+ghost use Rattle.s66_model.specs.{conflict, Problem, points_of, point_of};
+ghost use Rattle.s66_why.specs.{AreFromOne, IsForbidden, hazards, AddsUp, AreOnce, stretches_at, Stretch as StretchOf};
 
 /// Each stretch of an instruction that comes after others ends because of an earlier instruction, for which a rule forbids a minor
 /// cycle less.

@@ -1,9 +1,7 @@
 //! The sums of how long instructions were kept back, by the order of conflict.
 
 ghost use Rattle.std.specs.Prelude.{ℕ, ◌≡◌, ◌≤◌, ◌+◌, ◌^◌, [], ◌∷◌, length};
-ghost use Rattle.s66_why.specs.Why.{lost};
-ghost use Rattle.s66_why.specs.Sums.{sum_of, AreAtMost};
-ghost use Rattle.s66_why.specs.declared.stretch.Conflict.{Conflict as ConflictOf};
+ghost use Rattle.s66_why.specs.{lost, sum_of, AreAtMost, Conflict as ConflictOf};
 
 use crate::stretch::{Conflict, Stretch};
 

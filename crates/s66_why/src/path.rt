@@ -2,10 +2,9 @@
 //! time. It is followed back from the end, and is the critical path of this one order.
 
 ghost use Rattle.std.specs.Prelude.{◌≡◌, ◌≤◌, length, map, reverse};
-ghost use Rattle.s66_isa.specs.declared.limits.TheConstants.{BLOCK_LIMIT};
-ghost use Rattle.s66_model.specs.Timing.{total};
-ghost use Rattle.s66_why.specs.Why.{before_issue, before_start, decides, before, is_held, is_linked, next_wait, passes, steps, steps_from, walk};
-ghost use Rattle.s66_why.specs.declared.path.Step.{Step as StepOf};
+ghost use Rattle.s66_isa.specs.{BLOCK_LIMIT};
+ghost use Rattle.s66_model.specs.{total};
+ghost use Rattle.s66_why.specs.{before_issue, before_start, decides, before, is_held, is_linked, next_wait, passes, steps, steps_from, walk, Step as StepOf};
 
 use crate::cause::{Cause, Holder};
 use crate::holders::{first_holder, holder, second_holder, third_holder};

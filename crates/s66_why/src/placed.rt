@@ -1,10 +1,10 @@
 //! An instruction at its place in a timed order, with all its times.
 
 ghost use Rattle.std.specs.Prelude.{◌≡◌, ◌+◌, ◌≤◌, ◌==◌, if◌then◌else◌, max, reverse};
-ghost use Rattle.s66_isa.specs.Table.{same_reg};
-ghost use Rattle.s66_model.specs.Timing.{done_at, end_of, readers_wait, writes_reg};
-ghost use Rattle.s66_time.specs.declared.limits.TheConstants.{TOTAL_LIMIT};
-ghost use Rattle.s66_why.specs.Why.{lets_go};
+ghost use Rattle.s66_isa.specs.{same_reg};
+ghost use Rattle.s66_model.specs.{done_at, end_of, readers_wait, writes_reg};
+ghost use Rattle.s66_time.specs.{TOTAL_LIMIT};
+ghost use Rattle.s66_why.specs.{lets_go};
 
 use crate::cause::Cause;
 use arrayvec::ArrayVec;
@@ -40,7 +40,7 @@ pub struct PlacedInstr {
 }
 
 impl Model for PlacedInstr {
-    ghost use Rattle.s66_model.specs.Timing.{Point};
+    ghost use Rattle.s66_model.specs.{Point};
     ghost use Rattle.s66_why.specs.KeptPoints.{IsKeptPoint};
 
     ghost Value = { Point };

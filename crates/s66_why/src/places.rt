@@ -1,8 +1,8 @@
 //! Texts in places of a width: blanks fill what is left.
 
 ghost use Rattle.std.specs.Prelude.{◌≡◌, ◌≤◌, ◌++◌, OnOk, replicate};
-ghost use Rattle.s66_line.specs.declared.limits.TheConstants.{TEXT_LIMIT};
-ghost use Rattle.s66_why.specs.TextChart.{in_places, text_width};
+ghost use Rattle.s66_line.specs.{TEXT_LIMIT};
+ghost use Rattle.s66_why.specs.{in_places, text_width};
 
 use s66_line::Block;
 use std::alloc::AllocError;

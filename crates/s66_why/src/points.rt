@@ -1,10 +1,8 @@
 //! The instructions of a timed order with all their times, each by a look back over those before it.
 
 ghost use Rattle.std.specs.Prelude.{◌≡◌, ◌+◌, ◌<◌, ◌≤◌, length, map, reverse, take};
-ghost use Rattle.s66_model.specs.LegalOrder.{IsLegal};
-ghost use Rattle.s66_model.specs.Timing.{points_of, result_at};
-ghost use Rattle.s66_time.specs.TimedOrder.{point_at};
-ghost use Rattle.s66_time.specs.declared.limits.TheConstants.{TOTAL_LIMIT};
+ghost use Rattle.s66_model.specs.{IsLegal, points_of, result_at};
+ghost use Rattle.s66_time.specs.{point_at, TOTAL_LIMIT};
 
 use crate::placed::{PlacedInstr, readers_wait};
 use arrayvec::ArrayVec;

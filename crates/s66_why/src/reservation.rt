@@ -1,8 +1,8 @@
 //! From when until when a unit or a register is held, and how a minor cycle of it is drawn.
 
 ghost use Rattle.std.specs.Prelude.{◌≡◌, ◌≤◌, length, map};
-ghost use Rattle.s66_isa.specs.declared.limits.TheConstants.{BLOCK_LIMIT};
-ghost use Rattle.s66_why.specs.Reservations.{cell, holds, mark, register_reservations, unit_reservation};
+ghost use Rattle.s66_isa.specs.{BLOCK_LIMIT};
+ghost use Rattle.s66_why.specs.{cell, holds, mark, register_reservations, unit_reservation};
 
 use crate::placed::PlacedInstr;
 use crate::work::Work;

@@ -2,8 +2,7 @@
 
 ghost use Rattle.std.specs.Prelude.{ℕ, ◌≡◌, ◌++◌, OnOk, length, map};
 ghost use Rattle.std.specs.List.{range_with_len};
-ghost use Rattle.s66_why.specs.Chart.{letter, row_text};
-ghost use Rattle.s66_why.specs.Runs.{until, IsInOrder};
+ghost use Rattle.s66_why.specs.{letter, row_text, until, IsInOrder};
 
 use crate::activity::{Activity, IDLE, ISSUES, WAITS, WAITS_FOR_READERS, WORKS};
 use crate::places::push_blanks;

@@ -2,7 +2,7 @@
 //! orders of conflict that Thornton describes.
 
 ghost use Rattle.std.specs.Prelude.{◌≡◌, ◌≤◌, option_to_list, reverse};
-ghost use Rattle.s66_why.specs.Why.{slot, first_stretch, second_stretch, third_stretch};
+ghost use Rattle.s66_why.specs.{slot, first_stretch, second_stretch, third_stretch};
 
 use crate::cause::Holder;
 use crate::holders::{first_holder, second_holder, third_holder};

@@ -2,14 +2,10 @@
 //! are called.
 
 ghost use Rattle.std.specs.Prelude.{◌≡◌, ◌≤◌, ◌++◌, OnOk, IfOk, flat_map, length, map, reverse};
-ghost use Rattle.s66_isa.specs.declared.limits.TheConstants.{BLOCK_LIMIT};
-ghost use Rattle.s66_line.specs.Blocks.{instrs_of};
-ghost use Rattle.s66_why.specs.TextChart.{text_width};
-ghost use Rattle.s66_why.specs.Numbers.{AreOf, IsOf, StepsAreOf};
-ghost use Rattle.s66_why.specs.Why.{bank_name, register_name, register_text, cause_text, conflict_name, in_three, lost, on_right, path_line, path_lines, step_row, steps_line, stretch_line, stretch_text, stretches, text_after_number, text_at_end, time_row, why_text};
-ghost use Rattle.s66_why.specs.Sums.{sum_of, sums_line};
-ghost use Rattle.s66_why.specs.declared.path.Step.{Step as StepOf};
-ghost use Rattle.s66_why.specs.declared.stretch.Conflict.{Conflict as ConflictOf};
+ghost use Rattle.s66_isa.specs.{BLOCK_LIMIT};
+ghost use Rattle.s66_line.specs.{instrs_of};
+ghost use Rattle.s66_why.specs.{text_width, AreOf, IsOf, StepsAreOf, bank_name, register_name, register_text, cause_text, conflict_name, in_three, lost, on_right, path_line, path_lines, step_row};
+ghost use Rattle.s66_why.specs.{steps_line, stretch_line, stretch_text, stretches, text_after_number, text_at_end, time_row, why_text, sum_of, sums_line, Step as StepOf, Conflict as ConflictOf};
 
 use crate::cause::Cause;
 use crate::lost::Lost;

@@ -1,8 +1,8 @@
 //! Which copy of its unit each instruction takes, where a kind has several.
 
 ghost use Rattle.std.specs.Prelude.{◌≡◌, ◌≤◌, length};
-ghost use Rattle.s66_isa.specs.declared.limits.TheConstants.{BLOCK_LIMIT};
-ghost use Rattle.s66_why.specs.Units.{left_from, taken_from, works_of_kind};
+ghost use Rattle.s66_isa.specs.{BLOCK_LIMIT};
+ghost use Rattle.s66_why.specs.{left_from, taken_from, works_of_kind};
 
 use crate::work::Work;
 use arrayvec::ArrayVec;

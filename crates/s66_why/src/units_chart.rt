@@ -2,12 +2,10 @@
 
 ghost use Rattle.std.specs.Prelude.{◌≡◌, ◌≤◌, ◌+◌, ◌++◌, OnOk, flat_map, length, map};
 ghost use Rattle.std.specs.List.{range_with_len};
-ghost use Rattle.s66_isa.specs.declared.limits.TheConstants.{BLOCK_LIMIT};
-ghost use Rattle.s66_isa.specs.Table.{all_kinds};
-ghost use Rattle.s66_line.specs.Blocks.{instrs_of};
-ghost use Rattle.s66_line.specs.declared.limits.TheConstants.{TEXT_LIMIT};
-ghost use Rattle.s66_model.specs.Timing.{points_of};
-ghost use Rattle.s66_why.specs.Reservations.{cell, cells, copy_rows, kind_rows, register_head, register_row, register_rows, reservation_rows, unit_head, unit_row, units_chart, units_width};
+ghost use Rattle.s66_isa.specs.{BLOCK_LIMIT, all_kinds};
+ghost use Rattle.s66_model.specs.{points_of};
+ghost use Rattle.s66_line.specs.{instrs_of, TEXT_LIMIT};
+ghost use Rattle.s66_why.specs.{cell, cells, copy_rows, kind_rows, register_head, register_row, register_rows, reservation_rows, unit_head, unit_row, units_chart, units_width};
 
 use crate::chart::push_chart_in_places;
 use crate::placed::PlacedInstr;

@@ -1,7 +1,7 @@
 //! All stretches in which one instruction is kept back, in order: until it issues, until it starts, and for each result.
 
 ghost use Rattle.std.specs.Prelude.{◌≡◌, ◌≤◌, ◌+◌, ◌++◌, length, option_to_list, reverse};
-ghost use Rattle.s66_why.specs.Why.{stretches_at};
+ghost use Rattle.s66_why.specs.{stretches_at};
 
 use crate::placed::PlacedInstr;
 use crate::stretch::{Stretch, first_stretch, second_stretch, third_stretch};

@@ -1,9 +1,9 @@
 //! What each instruction of a timed order does with its unit, as rows of units and a page draw it.
 
 ghost use Rattle.std.specs.Prelude.{◌≡◌, ◌<◌, length, reverse};
-ghost use Rattle.s66_model.specs.Timing.{points_of};
-ghost use Rattle.s66_time.specs.TimedOrder.{point_at};
-ghost use Rattle.s66_why.specs.Units.{work, works};
+ghost use Rattle.s66_model.specs.{points_of};
+ghost use Rattle.s66_time.specs.{point_at};
+ghost use Rattle.s66_why.specs.{work, works};
 
 use crate::placed::PlacedInstr;
 use arrayvec::ArrayVec;

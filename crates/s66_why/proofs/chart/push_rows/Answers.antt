@@ -1,5 +1,5 @@
 use Rattle.std.proofs.Common.{ℕ, ◌++◌, ◌∙◌, ap, append_assoc, arith}
-use Rattle.s66_why.specs.Rows.{no_row_in, row_in}
+use Rattle.s66_why.specs.{no_row_in, row_in}
 use Rattle.s66_why.proofs.Appended.{range-more}
 use Rattle.s66_why.proofs.chart.push_rows.Goals as goal
 

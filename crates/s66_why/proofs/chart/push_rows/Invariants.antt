@@ -1,6 +1,6 @@
-use Rattle.std.proofs.Common.{ℕ, ◌≡◌, ◌-◌, ◌++◌, flat_map, length}
 use Rattle.std.specs.List.{range_with_len}
-use Rattle.s66_why.specs.Rows.{no_row_in, row_in, rows_in}
+use Rattle.std.proofs.Common.{ℕ, ◌≡◌, ◌-◌, ◌++◌, flat_map, length}
+use Rattle.s66_why.specs.{no_row_in, row_in, rows_in}
 use Rattle.s66_why.proofs.chart.push_rows.Given as goal
 
 abbrev pub invariant-loop-position : goal.invariant-loop-position

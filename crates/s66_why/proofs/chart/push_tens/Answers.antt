@@ -1,5 +1,5 @@
 use Rattle.std.proofs.Common.{ℕ, ◌*◌}
-use Rattle.s66_why.specs.TextChart.{in_ten}
+use Rattle.s66_why.specs.{in_ten}
 use Rattle.s66_why.proofs.Appended.{range-more}
 use Rattle.s66_why.proofs.chart.push_tens.Goals as goal
 

@@ -1,6 +1,6 @@
-use Rattle.std.proofs.Common.{ℕ, ◌≡◌, ◌-◌, ◌*◌, ◌++◌, flat_map}
 use Rattle.std.specs.List.{range_with_len}
-use Rattle.s66_why.specs.TextChart.{in_ten}
+use Rattle.std.proofs.Common.{ℕ, ◌≡◌, ◌-◌, ◌*◌, ◌++◌, flat_map}
+use Rattle.s66_why.specs.{in_ten}
 use Rattle.s66_why.proofs.chart.push_tens.Given as goal
 
 abbrev pub invariant-loop-ten : goal.invariant-loop-ten

@@ -1,11 +1,10 @@
 use Rattle.std.proofs.Common.{ℕ, List, ◌≡◌, ◌++◌, ◌∙◌, ap, append_assoc, get_or, sym}
 use Rattle.std.proofs.lemmas.Result.{IfOk-equal}
+use Rattle.s66_line.specs.{text_of}
 use Rattle.s66_time.specs.Ordered.{Ordered}
-use Rattle.s66_line.specs.Blocks.{text_of}
-use Rattle.s66_time.specs.TimedOrder.{point_at}
+use Rattle.s66_time.specs.{point_at}
 use Rattle.s66_time.proofs.Positions.{number-at}
-use Rattle.s66_why.specs.Chart.{instruction_row}
-use Rattle.s66_why.specs.Rows.{before_row}
+use Rattle.s66_why.specs.{instruction_row, before_row}
 use Rattle.s66_why.proofs.chart.push_text_row.Goals as goal
 
 pub returns : goal.returns

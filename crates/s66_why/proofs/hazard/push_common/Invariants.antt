@@ -1,7 +1,6 @@
 use Rattle.std.proofs.Common.{◌≡◌, ◌++◌, map, drop}
 use Rattle.s66_isa.specs.Table.{Reg}
-use Rattle.s66_why.specs.declared.hazard.Place.TheVariants.{Register}
-use Rattle.s66_why.specs.Hazards.{common}
+use Rattle.s66_why.specs.{Register, common}
 use Rattle.s66_why.proofs.hazard.push_common.Given as goal
 
 abbrev pub invariant-loop-register : goal.invariant-loop-register

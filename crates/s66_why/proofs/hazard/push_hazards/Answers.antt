@@ -1,11 +1,7 @@
 use Rattle.std.proofs.Common.{List, ◌≡◌, ◌∙◌, ◌++◌, ap, ap₂, append_assoc, map}
 use Rattle.std.proofs.lemmas.Result.{IfOk-equal}
 use Rattle.s66_isa.specs.Table.{Reg}
-use Rattle.s66_why.specs.declared.hazard.Access.{Access}
-use Rattle.s66_why.specs.declared.hazard.Access.TheVariants.{ReadAfterWrite, WriteAfterRead, WriteAfterWrite}
-use Rattle.s66_why.specs.declared.hazard.Hazard.{Hazard}
-use Rattle.s66_why.specs.declared.hazard.Place.TheVariants.{Register}
-use Rattle.s66_why.specs.Hazards.{common, memory_hazards, register_hazards}
+use Rattle.s66_why.specs.{Access, ReadAfterWrite, WriteAfterRead, WriteAfterWrite, Hazard, Register, common, memory_hazards, register_hazards}
 use Rattle.s66_why.proofs.hazard.push_hazards.Goals as goal
 
 -- those in registers that both lists have

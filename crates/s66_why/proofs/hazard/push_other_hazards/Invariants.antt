@@ -1,6 +1,5 @@
 use Rattle.std.proofs.Common.{◌≡◌, ◌++◌, codes, drop, flat_map}
-use Rattle.s66_why.specs.declared.hazard.Hazard.{Hazard}
-use Rattle.s66_why.specs.Hazards.{hazard_text}
+use Rattle.s66_why.specs.{Hazard, hazard_text}
 use Rattle.s66_why.proofs.hazard.push_other_hazards.Given as goal
 
 abbrev pub invariant-loop-hazard : goal.invariant-loop-hazard

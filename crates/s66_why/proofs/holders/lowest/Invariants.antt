@@ -1,5 +1,5 @@
 use Rattle.std.proofs.Common.{◌≡◌, take, reverse}
-use Rattle.s66_why.specs.Why.{lowest}
+use Rattle.s66_why.specs.{lowest}
 use Rattle.s66_why.proofs.holders.lowest.Given as goal
 
 abbrev pub invariant-loop-point : goal.invariant-loop-point

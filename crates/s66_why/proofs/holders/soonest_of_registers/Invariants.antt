@@ -1,5 +1,5 @@
 use Rattle.std.proofs.Common.{◌≡◌, drop, reverse}
-use Rattle.s66_why.specs.Why.{nobody, soonest}
+use Rattle.s66_why.specs.{nobody, soonest}
 use Rattle.s66_why.proofs.holders.soonest_of_registers.Given as goal
 
 abbrev pub invariant-loop-register : goal.invariant-loop-register

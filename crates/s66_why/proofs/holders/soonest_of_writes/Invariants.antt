@@ -1,6 +1,6 @@
 use Rattle.std.proofs.Common.{◌≡◌, drop, map, reverse}
-use Rattle.s66_isa.specs.Table.{Write}
-use Rattle.s66_why.specs.Why.{nobody, soonest}
+use Rattle.s66_isa.specs.{Write}
+use Rattle.s66_why.specs.{nobody, soonest}
 use Rattle.s66_why.proofs.holders.soonest_of_writes.Given as goal
 
 abbrev pub invariant-loop-write : goal.invariant-loop-write

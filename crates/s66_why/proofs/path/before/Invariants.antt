@@ -1,5 +1,5 @@
 use Rattle.std.proofs.Common.{◌≡◌, drop, reverse}
-use Rattle.s66_why.specs.Why.{before}
+use Rattle.s66_why.specs.{before}
 use Rattle.s66_why.proofs.path.before.Given as goal
 
 abbrev pub invariant-loop-write : goal.invariant-loop-write

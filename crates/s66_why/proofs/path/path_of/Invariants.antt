@@ -1,5 +1,5 @@
 use Rattle.std.proofs.Common.{◌≡◌, map, take}
-use Rattle.s66_why.specs.declared.path.Step.{Step}
+use Rattle.s66_why.specs.{Step}
 use Rattle.s66_why.proofs.path.path_of.Given as goal
 
 abbrev pub invariant-loop-step : goal.invariant-loop-step

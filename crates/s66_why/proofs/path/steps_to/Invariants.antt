@@ -1,5 +1,5 @@
 use Rattle.std.proofs.Common.{◌≡◌, ◌-◌, ◌≤◌, ◌++◌, length, take, reverse}
-use Rattle.s66_why.specs.Why.{steps_from}
+use Rattle.s66_why.specs.{steps_from}
 use Rattle.s66_why.proofs.path.steps_to.Given as goal
 
 abbrev pub invariant-loop-back : goal.invariant-loop-back

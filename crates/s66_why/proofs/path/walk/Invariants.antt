@@ -1,5 +1,5 @@
 use Rattle.std.proofs.Common.{◌≡◌, ◌-◌, ◌≤◌, ◌++◌, length, take, reverse}
-use Rattle.s66_why.specs.Why.{walk}
+use Rattle.s66_why.specs.{walk}
 use Rattle.s66_why.proofs.path.walk.Given as goal
 
 abbrev pub invariant-loop-back : goal.invariant-loop-back

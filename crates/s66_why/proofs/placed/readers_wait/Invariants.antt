@@ -1,6 +1,6 @@
 use Rattle.std.proofs.Common.{◌≡◌, ◌+◌, ◌≤◌, take, reverse}
-use Rattle.s66_model.specs.Timing.{readers_wait}
-use Rattle.s66_time.specs.declared.limits.TheConstants.{TOTAL_LIMIT}
+use Rattle.s66_model.specs.{readers_wait}
+use Rattle.s66_time.specs.{TOTAL_LIMIT}
 use Rattle.s66_why.proofs.placed.readers_wait.Given as goal
 
 abbrev pub invariant-loop-point : goal.invariant-loop-point

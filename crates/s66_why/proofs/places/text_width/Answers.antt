@@ -1,6 +1,6 @@
 use Rattle.std.proofs.Common.{List, ℕ, ◌≡◌, ◌+◌, ◌-◌, ◌∙◌, ap, arith, length, max, suc}
-use Rattle.s66_isa.specs.Lists.{greatest, rising}
-use Rattle.s66_line.specs.Blocks.{instrs_of, text_of}
+use Rattle.s66_isa.specs.{greatest, rising}
+use Rattle.s66_line.specs.{instrs_of, text_of}
 use Rattle.s66_why.proofs.places.text_width.Goals as goal
 
 pub loop-position-preserved : goal.loop-position-preserved

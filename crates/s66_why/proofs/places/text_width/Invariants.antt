@@ -1,8 +1,7 @@
 use Rattle.std.proofs.Common.{ℕ, ◌≡◌, ◌≤◌, ◌+◌, ◌-◌, length, max}
-use Rattle.s66_isa.specs.Lists.{greatest, rising}
-use Rattle.s66_line.specs.Blocks.{instrs_of, text_of}
-use Rattle.s66_line.specs.declared.limits.TheConstants.{TEXT_LIMIT}
-use Rattle.s66_why.specs.TextChart.{text_width}
+use Rattle.s66_isa.specs.{greatest, rising}
+use Rattle.s66_line.specs.{instrs_of, text_of, TEXT_LIMIT}
+use Rattle.s66_why.specs.{text_width}
 use Rattle.s66_why.proofs.places.text_width.Given as goal
 
 abbrev pub invariant-loop-position : goal.invariant-loop-position

@@ -1,10 +1,9 @@
 use Rattle.std.proofs.Common.{ℕ, ◌≡◌, ◌∙◌, List, ap, get_or, map, reverse, sym, take}
 use Rattle.std.proofs.lemmas.List.{reverse-reverse}
-use Rattle.s66_isa.specs.Table.{Row, instr_at, row}
-use Rattle.s66_isa.specs.declared.profile.Profile.{Profile}
-use Rattle.s66_model.specs.Timing.{Point, points_of, point_of, row_at, result_at}
+use Rattle.s66_isa.specs.{Row, instr_at, row, Profile}
+use Rattle.s66_model.specs.{Point, points_of, point_of, row_at, result_at}
 use Rattle.s66_time.specs.Ordered.{Ordered}
-use Rattle.s66_time.specs.TimedOrder.{point_at}
+use Rattle.s66_time.specs.{point_at}
 use Rattle.s66_time.proofs.Positions.{point-at, row-at, number-at}
 use Rattle.s66_why.proofs.Earlier.{point-is, point-results}
 use Rattle.s66_why.proofs.points.placed.Goals as goal

@@ -1,8 +1,8 @@
 use Rattle.std.proofs.Common.{ℕ, ◌∙◌, ◌<◌, ◌++◌, [], ◌∷◌, List, ap, arith, length, length-take, reverse, take, sym}
 use Rattle.std.proofs.lemmas.List.{reverse-append, length-reverse}
-use Rattle.s66_time.specs.Ordered.{Ordered}
-use Rattle.s66_model.specs.Timing.{Point, points_of}
+use Rattle.s66_model.specs.{Point, points_of}
 use Rattle.s66_model.proofs.PointTimes.{points_after-length}
+use Rattle.s66_time.specs.Ordered.{Ordered}
 use Rattle.s66_time.proofs.Positions.{points-push, point-at}
 use Rattle.s66_why.proofs.points.points_of.Goals as goal
 

@@ -1,5 +1,5 @@
 use Rattle.std.proofs.Common.{ap, arith}
-use Rattle.s66_isa.specs.Table.{Write}
+use Rattle.s66_isa.specs.{Write}
 use Rattle.s66_why.proofs.Writes.{short-latency}
 use Rattle.s66_why.proofs.points.results.Goals as goal
 

@@ -1,5 +1,5 @@
 use Rattle.std.proofs.Common.{◌≡◌, take, map, reverse}
-use Rattle.s66_model.specs.Timing.{result_at}
+use Rattle.s66_model.specs.{result_at}
 use Rattle.s66_why.proofs.points.results.Given as goal
 
 abbrev pub invariant-loop-write : goal.invariant-loop-write

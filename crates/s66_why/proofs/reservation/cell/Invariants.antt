@@ -1,5 +1,5 @@
 use Rattle.std.proofs.Common.{◌≡◌, drop}
-use Rattle.s66_why.specs.Reservations.{cell}
+use Rattle.s66_why.specs.{cell}
 use Rattle.s66_why.proofs.reservation.cell.Given as goal
 
 abbrev pub invariant-loop-reservation : goal.invariant-loop-reservation

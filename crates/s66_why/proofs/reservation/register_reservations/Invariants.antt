@@ -1,5 +1,5 @@
 use Rattle.std.proofs.Common.{◌≡◌, ◌≤◌, ◌++◌, drop, length}
-use Rattle.s66_why.specs.Reservations.{register_reservations}
+use Rattle.s66_why.specs.{register_reservations}
 use Rattle.s66_why.proofs.reservation.register_reservations.Given as goal
 
 abbrev pub invariant-loop-point : goal.invariant-loop-point

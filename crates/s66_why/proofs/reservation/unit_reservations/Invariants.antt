@@ -1,5 +1,5 @@
 use Rattle.std.proofs.Common.{◌≡◌, ◌≤◌, length, map, take}
-use Rattle.s66_why.specs.Reservations.{unit_reservation}
+use Rattle.s66_why.specs.{unit_reservation}
 use Rattle.s66_why.proofs.reservation.unit_reservations.Given as goal
 
 abbrev pub invariant-loop-work : goal.invariant-loop-work

@@ -1,8 +1,7 @@
-use Rattle.std.proofs.Common.{◌≡◌, ◌∙◌, length, map, replicate, rules}
 use Rattle.std.specs.List.{range_with_len}
-use Rattle.s66_why.specs.declared.activity.TheConstants.{IDLE}
+use Rattle.std.proofs.Common.{◌≡◌, ◌∙◌, length, map, replicate, rules}
+use Rattle.s66_why.specs.{IDLE, runs}
 use Rattle.s66_why.proofs.Runs.{one-letter, runs-letters}
-use Rattle.s66_why.specs.Runs.{runs}
 use Rattle.s66_why.proofs.row.draw.Goals as goal
 
 pub returns : goal.returns

@@ -1,9 +1,7 @@
 use Rattle.std.proofs.Common.{◌≡◌, ◌+◌, ◌*◌, ◌^◌, ◌++◌, ◌∙◌, List, ap, arith, flat_map, reverse, subst, sym, take}
-use Rattle.s66_isa.specs.Lists.{Among}
-use Rattle.s66_model.specs.Timing.{Point}
-use Rattle.s66_why.specs.declared.stretch.Stretch.{Stretch}
-use Rattle.s66_why.specs.Sums.{sum_of}
-use Rattle.s66_why.specs.Why.{stretches, stretches_at, stretch_line, lost}
+use Rattle.s66_isa.specs.{Among}
+use Rattle.s66_model.specs.{Point}
+use Rattle.s66_why.specs.{Stretch, sum_of, stretches, stretches_at, stretch_line, lost}
 use Rattle.s66_why.proofs.Earlier.{earlier-more}
 use Rattle.s66_why.proofs.Lines.{lines-more, lost-more}
 use Rattle.s66_why.proofs.Numbers.{among-stretches}

@@ -1,7 +1,5 @@
 use Rattle.std.proofs.Common.{◌≡◌, ◌*◌, ◌^◌, ◌++◌, flat_map, take, reverse}
-use Rattle.s66_why.specs.Why.{stretches, stretch_line, lost}
-use Rattle.s66_why.specs.Sums.{sum_of, AreAtMost}
-use Rattle.s66_why.specs.declared.stretch.Conflict.{Conflict}
+use Rattle.s66_why.specs.{stretches, stretch_line, lost, sum_of, AreAtMost, Conflict}
 use Rattle.s66_why.proofs.text.push_all_lines.Given as goal
 
 abbrev pub invariant-loop-position : goal.invariant-loop-position

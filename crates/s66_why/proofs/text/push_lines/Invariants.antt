@@ -1,5 +1,5 @@
 use Rattle.std.proofs.Common.{◌≡◌, ◌++◌, drop, flat_map}
-use Rattle.s66_why.specs.Why.{stretch_line}
+use Rattle.s66_why.specs.{stretch_line}
 use Rattle.s66_why.proofs.text.push_lines.Given as goal
 
 abbrev pub invariant-loop-stretch : goal.invariant-loop-stretch

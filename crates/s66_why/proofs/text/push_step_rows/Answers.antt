@@ -1,6 +1,6 @@
-use Rattle.s66_why.specs.declared.path.Step.{Step}
-use Rattle.s66_why.proofs.text.push_step_rows.Goals as goal
 use Rattle.s66_line.proofs.OperationLaw.{among-at}
+use Rattle.s66_why.specs.{Step}
+use Rattle.s66_why.proofs.text.push_step_rows.Goals as goal
 
 pub push_step_row-requires-clause-number : goal.push_step_row-requires-clause-number
 push_step_row-requires-clause-number c =

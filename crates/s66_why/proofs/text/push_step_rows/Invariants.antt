@@ -1,5 +1,5 @@
 use Rattle.std.proofs.Common.{◌≡◌, ◌++◌, drop, flat_map}
-use Rattle.s66_why.specs.Why.{step_row}
+use Rattle.s66_why.specs.{step_row}
 use Rattle.s66_why.proofs.text.push_step_rows.Given as goal
 
 abbrev pub invariant-loop-step : goal.invariant-loop-step

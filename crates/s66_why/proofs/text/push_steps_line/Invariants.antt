@@ -1,6 +1,6 @@
 use Rattle.std.proofs.Common.{◌≡◌, ◌++◌, codes, drop, map}
-use Rattle.s66_isa.specs.Lists.{after_blanks}
-use Rattle.s66_why.specs.declared.path.Step.{Step}
+use Rattle.s66_isa.specs.{after_blanks}
+use Rattle.s66_why.specs.{Step}
 use Rattle.s66_why.proofs.text.push_steps_line.Given as goal
 
 abbrev pub invariant-loop-step : goal.invariant-loop-step

@@ -1,17 +1,12 @@
 use Rattle.std.proofs.Common.{ℕ, ◌≡◌, ◌≤◌, ◌++◌, ◌∙◌, List, [], OnOk, ap, ap₂, append_assoc, arith, flat_map, length, reverse, subst, sym}
 use Rattle.std.proofs.lemmas.List.{length-reverse, reverse-reverse}
 use Rattle.std.proofs.lemmas.Result.{IfOk-equal}
-use Rattle.s66_isa.specs.declared.limits.TheConstants.{BLOCK_LIMIT}
-use Rattle.s66_isa.specs.Lists.{Among}
-use Rattle.s66_time.proofs.OrderNumbers.{legal-range}
-use Rattle.s66_line.specs.Blocks.{Block, instrs_of}
-use Rattle.s66_model.specs.LegalOrder.{IsLegal}
-use Rattle.s66_model.specs.Timing.{Point, Problem, points_of, total}
+use Rattle.s66_isa.specs.{BLOCK_LIMIT, Among}
+use Rattle.s66_model.specs.{IsLegal, Point, Problem, points_of, total}
 use Rattle.s66_model.proofs.PointTimes.{points_after-length}
-use Rattle.s66_why.specs.declared.path.Step.{Step}
-use Rattle.s66_why.specs.Numbers.{AreOf, IsOf, StepsAreOf}
-use Rattle.s66_why.specs.Sums.{sums_line}
-use Rattle.s66_why.specs.Why.{lost, lost_line, path_lines, steps, stretch_line, stretches}
+use Rattle.s66_line.specs.{Block, instrs_of}
+use Rattle.s66_time.proofs.OrderNumbers.{legal-range}
+use Rattle.s66_why.specs.{Step, AreOf, IsOf, StepsAreOf, sums_line, lost, lost_line, path_lines, steps, stretch_line, stretches}
 use Rattle.s66_why.proofs.Forbidden.{points-met}
 use Rattle.s66_why.proofs.Lines.{line-of-sums}
 use Rattle.s66_why.proofs.Numbers.{each-among, steps-hold, stretches-hold}

@@ -1,5 +1,5 @@
 use Rattle.std.proofs.Common.{◌≡◌, ◌≤◌, ◌++◌, drop, length}
-use Rattle.s66_why.specs.Units.{left_from}
+use Rattle.s66_why.specs.{left_from}
 use Rattle.s66_why.proofs.units.left.Given as goal
 
 abbrev pub invariant-loop-work : goal.invariant-loop-work

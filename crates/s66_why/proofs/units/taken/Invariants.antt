@@ -1,5 +1,5 @@
 use Rattle.std.proofs.Common.{◌≡◌, ◌≤◌, ◌++◌, drop, length}
-use Rattle.s66_why.specs.Units.{taken_from}
+use Rattle.s66_why.specs.{taken_from}
 use Rattle.s66_why.proofs.units.taken.Given as goal
 
 abbrev pub invariant-loop-work : goal.invariant-loop-work

@@ -1,6 +1,6 @@
 use Rattle.std.proofs.Common.{◌≡◌, ◌≤◌, filter, length, take}
-use Rattle.s66_isa.specs.Table.{same_kind}
-use Rattle.s66_why.specs.declared.work.Work.{Work}
+use Rattle.s66_isa.specs.{same_kind}
+use Rattle.s66_why.specs.{Work}
 use Rattle.s66_why.proofs.units.works_of_kind.Given as goal
 
 abbrev pub invariant-loop-work : goal.invariant-loop-work

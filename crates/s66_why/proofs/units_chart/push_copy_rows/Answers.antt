@@ -1,5 +1,5 @@
 use Rattle.std.proofs.Common.{◌∙◌, ap}
-use Rattle.s66_why.specs.Units.{left_from, taken_from}
+use Rattle.s66_why.specs.{left_from, taken_from}
 use Rattle.s66_why.proofs.UnitRows.{copy-more}
 use Rattle.s66_why.proofs.units_chart.push_copy_rows.Goals as goal
 

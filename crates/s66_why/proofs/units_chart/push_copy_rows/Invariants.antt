@@ -1,5 +1,5 @@
 use Rattle.std.proofs.Common.{◌≡◌, ◌+◌, ◌-◌, ◌++◌}
-use Rattle.s66_why.specs.Reservations.{copy_rows}
+use Rattle.s66_why.specs.{copy_rows}
 use Rattle.s66_why.proofs.units_chart.push_copy_rows.Given as goal
 
 abbrev pub invariant-loop-unit : goal.invariant-loop-unit

@@ -1,6 +1,6 @@
-use Rattle.std.proofs.Common.{◌≡◌, ◌+◌, ◌-◌, ◌∙◌, [], ◌∷◌, ◌++◌, ap, append_assoc, arith, map, suc, sym}
 use Rattle.std.specs.List.{range_with_len}
-use Rattle.s66_why.specs.Reservations.{cell}
+use Rattle.std.proofs.Common.{◌≡◌, ◌+◌, ◌-◌, ◌∙◌, [], ◌∷◌, ◌++◌, ap, append_assoc, arith, map, suc, sym}
+use Rattle.s66_why.specs.{cell}
 use Rattle.s66_why.proofs.units_chart.push_marks.Goals as goal
 
 pub loop-cycle-preserved : goal.loop-cycle-preserved

@@ -1,6 +1,6 @@
-use Rattle.std.proofs.Common.{◌≡◌, ◌-◌, ◌++◌, map}
 use Rattle.std.specs.List.{range_with_len}
-use Rattle.s66_why.specs.Reservations.{cell}
+use Rattle.std.proofs.Common.{◌≡◌, ◌-◌, ◌++◌, map}
+use Rattle.s66_why.specs.{cell}
 use Rattle.s66_why.proofs.units_chart.push_marks.Given as goal
 
 abbrev pub invariant-loop-cycle : goal.invariant-loop-cycle

@@ -1,8 +1,7 @@
 use Rattle.std.proofs.Common.{ℕ, ◌∙◌, ◌++◌, ap}
-use Rattle.s66_isa.specs.declared.reg.TheConstants.{REGISTER_COUNT}
-use Rattle.s66_isa.specs.Registers.{register_at}
+use Rattle.s66_isa.specs.{REGISTER_COUNT, register_at}
 use Rattle.s66_isa.specs.Table.{Reg}
-use Rattle.s66_why.specs.Reservations.{register_row}
+use Rattle.s66_why.specs.{register_row}
 use Rattle.s66_why.proofs.Appended.{range-more}
 use Rattle.s66_why.proofs.units_chart.push_register_rows.Goals as goal
 

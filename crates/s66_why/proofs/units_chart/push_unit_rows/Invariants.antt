@@ -1,6 +1,6 @@
 use Rattle.std.proofs.Common.{◌≡◌, ◌++◌, drop, flat_map}
-use Rattle.s66_isa.specs.Table.{all_kinds}
-use Rattle.s66_why.specs.Reservations.{kind_rows}
+use Rattle.s66_isa.specs.{all_kinds}
+use Rattle.s66_why.specs.{kind_rows}
 use Rattle.s66_why.proofs.units_chart.push_unit_rows.Given as goal
 
 abbrev pub invariant-loop-kind : goal.invariant-loop-kind

@@ -1,6 +1,5 @@
 use Rattle.std.proofs.Common.{◌++◌, ◌∙◌, List, ap, ap₂, arith, length, reverse, sym}
-use Rattle.s66_why.specs.declared.stretch.Stretch.{Stretch}
-use Rattle.s66_why.specs.Why.{first_stretch, second_stretch, third_stretch}
+use Rattle.s66_why.specs.{Stretch, first_stretch, second_stretch, third_stretch}
 use Rattle.s66_why.proofs.Lines.{parts-none, parts-more}
 use Rattle.s66_why.proofs.Writes.{short-latency}
 use Rattle.s66_why.proofs.waits.waits_of.Goals as goal

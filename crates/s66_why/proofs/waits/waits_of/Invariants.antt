@@ -1,5 +1,5 @@
 use Rattle.std.proofs.Common.{◌≡◌, ◌+◌, ◌≤◌, ◌++◌, flat_map, length, reverse, take}
-use Rattle.s66_why.specs.Why.{first_stretch, second_stretch, third_stretch}
+use Rattle.s66_why.specs.{first_stretch, second_stretch, third_stretch}
 use Rattle.s66_why.proofs.waits.waits_of.Given as goal
 
 abbrev pub invariant-loop-write : goal.invariant-loop-write

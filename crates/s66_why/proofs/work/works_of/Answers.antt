@@ -1,10 +1,9 @@
-use Rattle.std.proofs.Common.{ℕ, ◌≡◌, ◌<◌, ◌∙◌, ◌++◌, [], ◌∷◌, List, ap, arith, length, length-take, map, reverse, sym, take}
-use Rattle.std.proofs.lemmas.List.{length-map, map_more, take_all}
+use Rattle.std.proofs.Common.{ℕ, ◌≡◌, ◌<◌, ◌∙◌, ◌++◌, [], ◌∷◌, List, ap, arith, length, length-take, map, reverse, sym, take, take_all}
+use Rattle.std.proofs.lemmas.List.{length-map, map_more}
+use Rattle.s66_model.specs.{Point, points_of}
 use Rattle.s66_time.specs.Ordered.{Ordered}
-use Rattle.s66_model.specs.Timing.{Point, points_of}
-use Rattle.s66_time.specs.TimedOrder.{no_point}
-use Rattle.s66_why.specs.declared.work.Work.{Work}
-use Rattle.s66_why.specs.Units.{work}
+use Rattle.s66_time.specs.{no_point}
+use Rattle.s66_why.specs.{Work, work}
 use Rattle.s66_why.proofs.PointCount.{points_length}
 use Rattle.s66_why.proofs.work.works_of.Goals as goal
 

@@ -1,9 +1,7 @@
 use Rattle.std.proofs.Common.{◌+◌, ◌*◌, ◌^◌, ◌++◌, [], ◌∷◌, ◌∙◌, List, ap, arith, sym, take}
 use Rattle.std.proofs.lemmas.List.{take_more}
-use Rattle.s66_why.specs.declared.stretch.Stretch.{Stretch}
-use Rattle.s66_why.specs.Why.{lost}
+use Rattle.s66_why.specs.{Stretch, lost, sum_of}
 use Rattle.s66_why.proofs.Lines.{lost-more}
-use Rattle.s66_why.specs.Sums.{sum_of}
 use Rattle.s66_why.proofs.lost.Lost.add_all.Goals as goal
 
 pub add-requires : goal.add-requires

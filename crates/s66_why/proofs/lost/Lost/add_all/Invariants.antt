@@ -1,7 +1,5 @@
 use Rattle.std.proofs.Common.{ℕ, ◌≡◌, ◌+◌, ◌*◌, ◌^◌, take}
-use Rattle.s66_why.specs.declared.stretch.Conflict.{Conflict}
-use Rattle.s66_why.specs.Why.{lost}
-use Rattle.s66_why.specs.Sums.{sum_of, AreAtMost}
+use Rattle.s66_why.specs.{Conflict, lost, sum_of, AreAtMost}
 use Rattle.s66_why.proofs.lost.Lost.add_all.Given as goal
 
 abbrev pub invariant-loop-stretch : goal.invariant-loop-stretch

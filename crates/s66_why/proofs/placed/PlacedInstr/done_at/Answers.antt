@@ -1,6 +1,6 @@
 use Rattle.std.proofs.Common.{if◌then◌else◌, arith}
-use Rattle.s66_isa.specs.Table.{same_reg}
-use Rattle.s66_model.specs.Timing.{ResultAt}
+use Rattle.s66_isa.specs.{same_reg}
+use Rattle.s66_model.specs.{ResultAt}
 use Rattle.s66_time.proofs.Loops.{greatest_more}
 use Rattle.s66_why.proofs.placed.PlacedInstr.done_at.Goals as goal
 

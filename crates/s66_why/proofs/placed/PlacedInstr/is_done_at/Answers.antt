@@ -1,7 +1,7 @@
-use Rattle.std.proofs.Common.{◌≡◌, ◌∙◌, ap, arith, sym}
-use Rattle.std.proofs.lemmas.Bool.{lt-leb, ne_eqb}
-use Rattle.s66_isa.specs.Lists.{greatest}
-use Rattle.s66_model.specs.Timing.{Point, ResultAt, done_at}
+use Rattle.std.proofs.Common.{◌≡◌, ◌∙◌, ap, arith, sym, ne_eqb}
+use Rattle.std.proofs.lemmas.Bool.{lt-leb}
+use Rattle.s66_isa.specs.{greatest}
+use Rattle.s66_model.specs.{Point, ResultAt, done_at}
 use Rattle.s66_why.proofs.Last.{done-le-last}
 use Rattle.s66_why.proofs.placed.PlacedInstr.is_done_at.Goals as goal
 

@@ -1,7 +1,6 @@
 use Rattle.std.proofs.Common.{◌≡◌, drop}
-use Rattle.s66_isa.specs.Lists.{some_of}
-use Rattle.s66_isa.specs.Table.{same_reg}
-use Rattle.s66_model.specs.Timing.{ResultAt}
+use Rattle.s66_isa.specs.{some_of, same_reg}
+use Rattle.s66_model.specs.{ResultAt}
 use Rattle.s66_why.proofs.placed.PlacedInstr.writes.Given as goal
 
 abbrev pub invariant-loop-made : goal.invariant-loop-made
