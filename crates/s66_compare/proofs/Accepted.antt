@@ -1,26 +1,14 @@
 -- What an accepted comparison says of the blocks of two sources, and how many rows it has.
-use Rattle.std.proofs.Common.{ℕ, ◌+◌, ◌*◌, ◌≡◌, ◌≤◌, Bool, true, true≢false, List, [], ◌∷◌, Option, None, Some, length, refl, ap, sym, subst, arith, inl, inr}
-use Rattle.std.specs.Prelude.{Ok, is_none}
+use Rattle.std.proofs.Common.{ℕ, ◌+◌, ◌*◌, ◌≡◌, ◌≤◌, Bool, true, true≢false, List, [], ◌∷◌, Option, None, Some, length, refl, ap, sym, subst, arith, inl, inr, Ok, is_none}
 use Rattle.std.proofs.lemmas.Bool.{and_parts}
-use Rattle.s66_isa.specs.Lists.{Among, every}
-use Rattle.s66_isa.specs.declared.profile.Profile.{Profile}
-use Rattle.s66_line.specs.Blocks.{Block, instrs_of}
-use Rattle.s66_source.specs.Frame.{frame_of}
-use Rattle.s66_source.specs.LeftAlone.{Reading}
-use Rattle.s66_source.specs.Source.{source_of}
-use Rattle.s66_source.specs.declared.limits.TheConstants.{SOURCE_LINES_LIMIT}
+use Rattle.s66_isa.specs.{Among, every, Profile}
+use Rattle.s66_line.specs.{Block, instrs_of}
+use Rattle.s66_source.specs.{frame_of, Reading, source_of, SOURCE_LINES_LIMIT}
 use Rattle.s66_source.proofs.FewBlocks.{few-blocks}
 use Rattle.s66_source.proofs.SpelledLaw.{spelled}
-use Rattle.s66_compare.specs.Compared.{IsCompared}
-use Rattle.s66_compare.specs.Difference.{first_difference}
-use Rattle.s66_compare.specs.Meant.{AreReordered, IsReordered, KeepsSource}
-use Rattle.s66_compare.specs.Pairing.{paired}
-use Rattle.s66_compare.specs.Rows.{AreAligned, both, is_legal, rows_by, rows_of}
-use Rattle.s66_compare.specs.Verdict.{is_kept, verdict_of}
-use Rattle.s66_compare.specs.declared.alignment.Step.{Step}
-use Rattle.s66_compare.specs.declared.alignment.Step.TheVariants.{Added, Gone, Pair}
+use Rattle.s66_compare.specs.{IsCompared, first_difference, AreReordered, IsReordered, KeepsSource, paired, AreAligned, both, is_legal, rows_by, rows_of, is_kept, verdict_of, Step, Added, Gone, Pair}
+use Rattle.s66_compare.specs.{Row}
 use Rattle.s66_compare.specs.declared.difference.Difference.{Difference}
-use Rattle.s66_compare.specs.declared.rows.Row.{Row}
 use Rattle.s66_compare.proofs.Differences.{none-same}
 use Rattle.s66_compare.proofs.Legal.{fresh-within, kept-legal, paired-fresh}
 use Rattle.s66_compare.proofs.Meanings.{IsSpelled, reordered-meaning}

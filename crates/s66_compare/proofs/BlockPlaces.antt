@@ -1,9 +1,8 @@
 -- What is said of an order that isn't legal, by whether texts are asked for and the new block is there.
-use Rattle.std.proofs.Common.{ℕ, zero, suc, ◌≡◌, ◌≤◌, ◌<◌, ◌++◌, ◌∙◌, Bool, true, false, Option, None, Some, List, [], ◌∷◌, length, refl, ap, ap₂, sym, arith, codes, decimal}
-use Rattle.std.specs.Prelude.{slice_get, slice_index_or}
-use Rattle.s66_line.specs.Blocks.{Block}
-use Rattle.s66_compare.specs.Broken.{broken_text}
-use Rattle.s66_compare.specs.Compared.{not_legal_text}
+use Rattle.std.proofs.Common.{ℕ, zero, suc, ◌≡◌, ◌≤◌, ◌<◌, ◌++◌, ◌∙◌, Bool, true, false, Option, None, Some, List, [], ◌∷◌, length, refl, ap, ap₂, sym, arith, codes, decimal, slice_get}
+use Rattle.std.proofs.Common.{slice_index_or}
+use Rattle.s66_line.specs.{Block}
+use Rattle.s66_compare.specs.{broken_text, not_legal_text}
 
 slice-none : (blocks : List Block) (i : ℕ) → length blocks ≤ i → slice_get blocks i ≡ None
 slice-none [] zero past = refl

@@ -1,11 +1,11 @@
 -- Two frames that are gone over part by part first differ where the definition says (`difference_of`).
 use Rattle.std.proofs.Common.{ℕ, suc, ◌+◌, ◌≡◌, ◌≢◌, ◌≤◌, ◌<◌, ◌∙◌, Bool, true, false, true≢false, not, if◌then◌else◌, List, [], ◌∷◌, Option, None, Some, length, drop, refl, ap, ap₂, sym, inl, inr}
-use Rattle.std.specs.Prelude.{bytes_eq, slice_index_or}
+use Rattle.std.proofs.Common.{bytes_eq, slice_index_or}
 use Rattle.std.proofs.lemmas.Bool.{and_from, and_parts, cases_Bool, not-true}
 use Rattle.std.proofs.lemmas.List.{drop_all}
 use Rattle.std.proofs.lemmas.Slice.Eq.{bytes_eq-Decides}
-use Rattle.s66_source.specs.Frame.{FramePart}
-use Rattle.s66_compare.specs.Difference.{DifferFirst, Shape, first_difference, is_alike, shape_of, shapes}
+use Rattle.s66_source.specs.{FramePart}
+use Rattle.s66_compare.specs.{DifferFirst, Shape, first_difference, is_alike, shape_of, shapes}
 use Rattle.s66_compare.specs.declared.difference.Difference.{Difference}
 use Rattle.s66_compare.proofs.RowSteps.{drop_at}
 

@@ -1,7 +1,7 @@
 -- The first number of a block that passes a test, for what a search for a partner or for a missing instruction finds.
 use Rattle.std.proofs.Common.{ℕ, zero, suc, ◌+◌, ◌-◌, ◌≡◌, ◌≢◌, ◌≤◌, ◌<◌, ◌∙◌, Bool, true, false, if◌then◌else◌, [], refl, ap, sym, arith, inl, inr}
 use Rattle.std.proofs.lemmas.Bool.{cases_eq}
-use Rattle.s66_isa.specs.Lists.{first_that, rising}
+use Rattle.s66_isa.specs.{first_that, rising}
 use Rattle.s66_isa.proofs.Lists.{rising-next}
 
 pub rising_none : (n i : ℕ) → n ≤ i → rising (n - i) (i + 1) ≡ []

@@ -1,28 +1,18 @@
 -- The frame of a printed text that is accepted when it is read again is that of its source, whichever of its blocks stand.
-use Rattle.std.proofs.Common.{◌≡◌, ◌≤◌, ◌+◌, ◌%◌, ◌==◌, ◌||◌, ◌∙◌, not, ℕ, zero, suc, Bool, true, false, true≢false, if◌then◌else◌, Option, None, Some, List, [], ◌∷◌, ◌++◌, get_or, length, map, refl, sym, ap, ap₂, subst, inl, inr, arith, append_assoc, eqb}
-use Rattle.std.specs.Prelude.{Ok, is_none}
-use Rattle.std.proofs.lemmas.Bool.{and_parts, eqb-false, eqb-true, ne_eqb}
+use Rattle.std.proofs.Common.{◌≡◌, ◌≤◌, ◌+◌, ◌%◌, ◌==◌, ◌||◌, ◌∙◌, not, ℕ, zero, suc, Bool, true, false, true≢false, if◌then◌else◌, Option, None, Some, List, [], ◌∷◌, ◌++◌, get_or, length, map, refl}
+use Rattle.std.proofs.Common.{sym, ap, ap₂, subst, inl, inr, arith, append_assoc, eqb, Ok, is_none, eqb-true, ne_eqb}
+use Rattle.std.proofs.lemmas.Bool.{and_parts, eqb-false}
 use Rattle.std.proofs.lemmas.List.{length-map}
-use Rattle.s66_isa.specs.Lists.{Among, every}
-use Rattle.s66_isa.specs.declared.instr.Instr.{Instr}
-use Rattle.s66_isa.specs.declared.limits.TheConstants.{BLOCK_LIMIT}
-use Rattle.s66_line.specs.Blocks.{Block}
-use Rattle.s66_line.specs.Classes.{begins_run, is_code}
-use Rattle.s66_line.specs.Fields.{body, label_bytes, lines_of}
-use Rattle.s66_line.specs.Operand.{is_filled}
-use Rattle.s66_line.specs.declared.class.Class.{Class}
-use Rattle.s66_line.specs.declared.class.Class.TheVariants.{Comment, Other, Refused, Pad, Instruction}
+use Rattle.s66_isa.specs.{Among, every, Instr, BLOCK_LIMIT}
+use Rattle.s66_line.specs.{Block, begins_run, is_code, body, label_bytes, lines_of, is_filled, Class, Comment, Other, Refused, Pad, Instruction}
 use Rattle.s66_line.proofs.Wholes.{AreLines-lines_of, is_inside}
-use Rattle.s66_source.specs.Frame.{FramePart, frame_of}
-use Rattle.s66_source.specs.LeftAlone.{Flagged, Reading, Standing, after_line, at_first, class_at, flagged_from, flagged_lines, is_alone, is_continued, redefined_by}
-use Rattle.s66_source.specs.Printed.{Placed, copied_line}
-use Rattle.s66_source.specs.ReadAgain.{AreComplete}
-use Rattle.s66_source.specs.Redefinitions.{Redefined}
-use Rattle.s66_source.specs.Replaced.{AreGiven, line_text, others, printed_in, replaced, text_for, texts_of}
-use Rattle.s66_source.specs.Source.{Line, begins_block, block_of, blocks_of, classed_lines, classes_from, entry_of, instructions, parts_of, put_before, refusal, source_of}
+use Rattle.s66_source.specs.{FramePart, frame_of, Flagged, Reading, Standing, after_line, at_first, class_at, flagged_from, flagged_lines, is_alone, is_continued, redefined_by, Placed, copied_line}
+use Rattle.s66_source.specs.{AreComplete, Redefined, AreGiven, line_text, others, printed_in, replaced, text_for, texts_of, Line, begins_block, block_of, blocks_of, classed_lines, classes_from}
+use Rattle.s66_source.specs.{entry_of, instructions, parts_of, put_before, refusal, source_of}
 use Rattle.s66_source.specs.declared.columns.Columns.{Columns}
 use Rattle.s66_source.proofs.LineLaw.{no_refusal}
-use Rattle.s66_source.proofs.LineTexts.{AreTexts, AreTold, IsTold, chosen_text, count_after, first-given, instruction-text, none-left, other-text, others-given, parts_by, parts_from, plain-text, told-source}
+use Rattle.s66_source.proofs.LineTexts.{AreTexts, AreTold, IsTold, chosen_text, count_after, first-given, instruction-text, none-left, other-text, others-given, parts_by, parts_from, plain-text}
+use Rattle.s66_source.proofs.LineTexts.{told-source}
 use Rattle.s66_source.proofs.PartsLaw.{parts}
 use Rattle.s66_source.proofs.PrintedLines.{accepted-is, ordered-classed}
 use Rattle.s66_source.proofs.ReadAgain.{EndsTexts, IsLeft, complete-others, left-by, lines_after, next-same, none-refused, parts_after, rest-taken, stays-comment, within-others}
@@ -35,7 +25,7 @@ use Rattle.s66_source.proofs.Runs.{Within, begun, block-new, block-same, has_run
 use Rattle.s66_source.proofs.SoundBlocks.{AreSoundBlocks, all-texts, located-label, sound-source}
 use Rattle.s66_source.proofs.SourceAgain.{redefined-again}
 use Rattle.s66_source.proofs.Standings.{code-stays, same-redefined}
-use Rattle.s66_compare.specs.Difference.{Shape, first_difference, shape_of, shapes}
+use Rattle.s66_compare.specs.{Shape, first_difference, shape_of, shapes}
 use Rattle.s66_compare.proofs.Differences.{same-alike}
 use Rattle.s66_compare.proofs.FrameRuns.{Reached, block_shape, emit, first-label, first_label, frame-runs, line_shape, next, reached, runs}
 use Rattle.s66_compare.proofs.LinesAgain.{Clean, Free, GiveBlocks, GivesBlock, GivesIf, clean-classed, gives-anew, gives-copied, gives_at}

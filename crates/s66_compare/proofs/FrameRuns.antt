@@ -1,23 +1,17 @@
 -- The frame of a source, line by line: a NO stands in it once its run has ended without an instruction.
-use Rattle.std.proofs.Common.{◌≡◌, ◌≢◌, ◌%◌, ◌==◌, ◌||◌, ◌∙◌, not, ℕ, zero, suc, Bool, true, false, true≢false, if◌then◌else◌, List, [], ◌∷◌, ◌++◌, None, map, refl, sym, ap, ap₂, arith, append_assoc, eq-eqb}
-use Rattle.std.specs.Prelude.{Ok}
-use Rattle.std.proofs.lemmas.Bool.{ne_eqb}
-use Rattle.std.proofs.lemmas.List.{append-nil}
-use Rattle.s66_isa.specs.declared.limits.TheConstants.{BLOCK_LIMIT}
-use Rattle.s66_line.specs.Blocks.{Block, line_of}
-use Rattle.s66_line.specs.Fields.{body, from_location, label_bytes, trim, is_trailing}
-use Rattle.s66_line.specs.declared.class.Class.{Class}
-use Rattle.s66_line.specs.declared.class.Class.TheVariants.{Comment, Other, Refused, Pad, Instruction}
-use Rattle.s66_source.specs.Frame.{FramePart, block_part, frame_of, frame_of_lines, is_beside, line_part, part_beside}
-use Rattle.s66_source.specs.LeftAlone.{Flagged, Reading, class_at, flagged_lines}
-use Rattle.s66_source.specs.Source.{Line, begins_block, block_of, blocks_of, classed_lines, classes_from, instructions, parts_of, put_before, refusal, source_of}
+use Rattle.std.proofs.Common.{◌≡◌, ◌≢◌, ◌%◌, ◌==◌, ◌||◌, ◌∙◌, not, ℕ, zero, suc, Bool, true, false, true≢false, if◌then◌else◌, List, [], ◌∷◌, ◌++◌, None, map, refl, sym, ap, ap₂, arith, append_assoc}
+use Rattle.std.proofs.Common.{eq-eqb, Ok, ne_eqb, append-nil}
+use Rattle.s66_isa.specs.{BLOCK_LIMIT}
+use Rattle.s66_line.specs.{Block, line_of, body, from_location, label_bytes, trim, is_trailing, Class, Comment, Other, Refused, Pad, Instruction}
+use Rattle.s66_source.specs.{FramePart, block_part, frame_of, frame_of_lines, is_beside, line_part, part_beside, Flagged, Reading, class_at, flagged_lines, Line, begins_block, block_of, blocks_of}
+use Rattle.s66_source.specs.{classed_lines, classes_from, instructions, parts_of, put_before, refusal, source_of}
 use Rattle.s66_source.proofs.LineLaw.{no_refusal}
 use Rattle.s66_source.proofs.PrintedLines.{ordered-classed}
 use Rattle.s66_source.proofs.LineTexts.{AllFrom, all-from, parts_by, parts_from}
 use Rattle.s66_source.proofs.ReadAgain.{none-refused, rest-taken}
 use Rattle.s66_source.proofs.ReaderBlocks.{fresh, from_class, behind, behind-begins, behind-put, left}
 use Rattle.s66_source.proofs.Runs.{Within, begun, block-new, block-same, has_run, none-ahead, none-behind, run-skip, some-ahead, within-more, within-new, within-same}
-use Rattle.s66_compare.specs.Difference.{Shape, shape_of, shapes}
+use Rattle.s66_compare.specs.{Shape, shape_of, shapes}
 
 -- WHAT IS KNOWN before a line
 

@@ -1,27 +1,20 @@
 -- A block that is another one in a legal order is found to be: each instruction gets a partner of its text, and these come in a legal order too.
-use Rattle.std.proofs.Common.{ℕ, zero, suc, ◌+◌, ◌≡◌, ◌≢◌, ◌≤◌, ◌<◌, ◌∙◌, Bool, true, false, true≢false, cond, ◌&&◌, not, if◌then◌else◌, List, [], ◌∷◌, ◌++◌, length, map, refl, ap, ap₂, sym, subst, arith, inl, inr, append_assoc}
-use Rattle.std.specs.Prelude.{◌==◌, ◌⊎◌, bytes_eq, nat_lt}
-use Rattle.std.proofs.lemmas.Bool.{and_from, and_parts, cases_Bool, cases_lt, le-ltb, lt-ltb, ne_eqb, not-true}
-use Rattle.std.proofs.lemmas.List.{append-nil, length-map}
+use Rattle.std.proofs.Common.{ℕ, zero, suc, ◌+◌, ◌≡◌, ◌≢◌, ◌≤◌, ◌<◌, ◌∙◌, Bool, true, false, true≢false, cond, ◌&&◌, not, if◌then◌else◌, List, [], ◌∷◌, ◌++◌, length, map, refl, ap, ap₂, sym, subst}
+use Rattle.std.proofs.Common.{arith, inl, inr, append_assoc, ◌==◌, ◌⊎◌, bytes_eq, nat_lt, le-ltb, lt-ltb, ne_eqb, append-nil}
+use Rattle.std.proofs.lemmas.Bool.{and_from, and_parts, cases_Bool, cases_lt, not-true}
+use Rattle.std.proofs.lemmas.List.{length-map}
 use Rattle.std.proofs.lemmas.Slice.Eq.{bytes_eq-Decides}
-use Rattle.s66_isa.specs.Lists.{first_that, has, rising, tally}
-use Rattle.s66_isa.specs.Table.{instr_at, numbers}
-use Rattle.s66_isa.specs.declared.instr.Instr.{Instr}
-use Rattle.s66_line.specs.Blocks.{Block, instrs_of, line_of, whole_text_of}
-use Rattle.s66_line.specs.InstructionText.{instr_in_text}
-use Rattle.s66_model.specs.Dependence.{conflict, depends}
-use Rattle.s66_model.specs.LegalOrder.{GoesOn, IsLegal, IsOrder, is_ready}
+use Rattle.s66_isa.specs.{first_that, has, rising, tally, instr_at, numbers, Instr}
+use Rattle.s66_model.specs.{conflict, depends, GoesOn, IsLegal, IsOrder, is_ready}
 use Rattle.s66_model.proofs.LegalOrders.{depends-from, depends-lt, each-needs, has_push-other, has_push-same, legal-order, needs-each, ready-from, ready-parts}
 use Rattle.s66_model.proofs.Remaining.{order-has}
-use Rattle.s66_compare.specs.Pairing.{first_left, is_open, paired, partner, partners, texts_of}
-use Rattle.s66_compare.specs.Verdict.{by_order, first_missing, is_kept, is_missing, kept_verdict, verdict_of}
-use Rattle.s66_compare.specs.declared.verdict.BlockVerdict.{BlockVerdict}
-use Rattle.s66_compare.specs.declared.verdict.BlockVerdict.TheVariants.{NotLegal, OtherNew, OtherOld, Reordered, Same}
+use Rattle.s66_line.specs.{Block, instrs_of, line_of, whole_text_of, instr_in_text}
+use Rattle.s66_time.proofs.Opened.{push-more, push-cases}
+use Rattle.s66_compare.specs.{first_left, is_open, paired, partner, partners, texts_of, by_order, first_missing, is_kept, is_missing, kept_verdict, verdict_of, BlockVerdict, NotLegal, OtherNew}
+use Rattle.s66_compare.specs.{OtherOld, Reordered, Same}
 use Rattle.s66_compare.proofs.Firsts.{first_passes, none_passes}
 use Rattle.s66_compare.proofs.Legal.{length-texts, needed}
 use Rattle.s66_compare.proofs.Meanings.{IsSpelled, instr-text}
-use Rattle.s66_time.proofs.Opened.{push-more}
-use Rattle.s66_time.proofs.Opened.{push-cases}
 
 -- HOW MANY NUMBERS PASS
 

@@ -1,22 +1,17 @@
 -- A block whose instructions all have their partners, and in whose order nothing is missing, is the old one in a legal order.
-use Rattle.std.proofs.Common.{ℕ, ◌+◌, ◌≡◌, ◌≢◌, ◌≤◌, ◌∙◌, Bool, true, false, true≢false, ◌&&◌, not, if◌then◌else◌, List, [], ◌∷◌, ◌++◌, length, map, refl, ap, ap₂, sym, subst, arith, inl, inr, append_assoc, eqb}
-use Rattle.std.specs.Prelude.{◌==◌, bytes_eq, nat_lt}
-use Rattle.std.proofs.lemmas.Bool.{and_parts, cases_Bool, eqb-true, ltb-false, not-true}
-use Rattle.std.proofs.lemmas.List.{append-nil, length-map}
+use Rattle.std.proofs.Common.{ℕ, ◌+◌, ◌≡◌, ◌≢◌, ◌≤◌, ◌∙◌, Bool, true, false, true≢false, ◌&&◌, not, if◌then◌else◌, List, [], ◌∷◌, ◌++◌, length, map, refl, ap, ap₂, sym, subst, arith, inl, inr}
+use Rattle.std.proofs.Common.{append_assoc, eqb, ◌==◌, bytes_eq, nat_lt, eqb-true, ltb-false, append-nil}
+use Rattle.std.proofs.lemmas.Bool.{and_parts, cases_Bool, not-true}
+use Rattle.std.proofs.lemmas.List.{length-map}
 use Rattle.std.proofs.lemmas.Slice.Eq.{bytes_eq-Decides}
-use Rattle.s66_isa.specs.Lists.{has}
-use Rattle.s66_isa.specs.Table.{numbers}
-use Rattle.s66_isa.specs.declared.instr.Instr.{Instr}
-use Rattle.s66_line.specs.Blocks.{Block, instrs_of, line_of, whole_text_of}
-use Rattle.s66_model.specs.Dependence.{depends}
-use Rattle.s66_model.specs.LegalOrder.{GoesOn, IsLegal}
+use Rattle.s66_isa.specs.{has, numbers, Instr}
+use Rattle.s66_model.specs.{depends, GoesOn, IsLegal}
 use Rattle.s66_model.proofs.Beginnings.{beginning-front, length-rising}
 use Rattle.s66_model.proofs.LegalOrders.{depends-from, depends-lt, each-needs, ready-from, ready-parts}
 use Rattle.s66_model.proofs.Remaining.{legal-parts}
-use Rattle.s66_compare.specs.Pairing.{AreWithin, first_left, is_open, paired, partner, partners, texts_of}
-use Rattle.s66_compare.specs.Verdict.{by_order, first_missing, is_kept, is_missing, kept_verdict, verdict_of}
-use Rattle.s66_compare.specs.declared.verdict.BlockVerdict.{BlockVerdict}
-use Rattle.s66_compare.specs.declared.verdict.BlockVerdict.TheVariants.{NotLegal, OtherNew, OtherOld}
+use Rattle.s66_line.specs.{Block, instrs_of, line_of, whole_text_of}
+use Rattle.s66_compare.specs.{AreWithin, first_left, is_open, paired, partner, partners, texts_of, by_order, first_missing, is_kept, is_missing, kept_verdict, verdict_of, BlockVerdict, NotLegal}
+use Rattle.s66_compare.specs.{OtherNew, OtherOld}
 use Rattle.s66_compare.proofs.Firsts.{first_passes, none_passes}
 
 -- NUMBERS OF THE BLOCK, each for the first time, after those before

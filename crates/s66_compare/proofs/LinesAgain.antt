@@ -1,30 +1,18 @@
 -- What lines of a printed text add to its frame when it is read again: comments nothing, a copied line what it added, the instructions of a
 -- block the place of the block.
-use Rattle.std.proofs.Common.{◌≡◌, ◌≢◌, ◌≤◌, ◌+◌, ◌-◌, ◌%◌, ◌==◌, ◌&&◌, ◌∙◌, ℕ, suc, Bool, true, false, if◌then◌else◌, Option, None, Some, List, [], ◌∷◌, ◌++◌, codes, get_or, length, refl, sym, ap, ap₂, subst, inl, inr, arith, append_assoc, eq-eqb}
-use Rattle.std.proofs.lemmas.Bool.{and_parts, ne_eqb, or_right}
-use Rattle.s66_isa.specs.Lists.{Among, every}
-use Rattle.s66_isa.specs.Table.{instr_at}
-use Rattle.s66_isa.specs.declared.instr.Instr.{Instr}
-use Rattle.s66_isa.specs.declared.limits.TheConstants.{BLOCK_LIMIT}
-use Rattle.s66_line.specs.Blocks.{Block, bytes_of, instrs_of}
-use Rattle.s66_line.specs.Classes.{is_code}
-use Rattle.s66_line.specs.Fields.{body, continues, is_blank, is_comment, is_return, from_operation, label_bytes, lines_of, trim, is_trailing}
-use Rattle.s66_line.specs.Classes.{by_operation, is_located}
-use Rattle.s66_line.specs.Operand.{is_filled}
-use Rattle.s66_line.specs.declared.class.Class.{Class}
-use Rattle.s66_line.specs.declared.class.Class.TheVariants.{Comment, Other, Refused, Pad, Instruction}
+use Rattle.std.proofs.Common.{◌≡◌, ◌≢◌, ◌≤◌, ◌+◌, ◌-◌, ◌%◌, ◌==◌, ◌&&◌, ◌∙◌, ℕ, suc, Bool, true, false, if◌then◌else◌, Option, None, Some, List, [], ◌∷◌, ◌++◌, codes, get_or, length, refl, sym, ap}
+use Rattle.std.proofs.Common.{ap₂, subst, inl, inr, arith, append_assoc, eq-eqb, ne_eqb}
+use Rattle.std.proofs.lemmas.Bool.{and_parts, or_right}
+use Rattle.s66_isa.specs.{Among, every, instr_at, Instr, BLOCK_LIMIT}
+use Rattle.s66_line.specs.{Block, bytes_of, instrs_of, is_code, body, continues, is_blank, is_comment, is_return, from_operation, label_bytes, lines_of, trim, is_trailing, by_operation, is_located}
+use Rattle.s66_line.specs.{is_filled, Class, Comment, Other, Refused, Pad, Instruction}
 use Rattle.s66_line.proofs.Wholes.{is_inside}
-use Rattle.s66_source.specs.LeftAlone.{Flagged, after_line, class_at, flagged_from, is_alone}
-use Rattle.s66_source.specs.Columns.{indented_line, indented_lines, indents, line_start}
-use Rattle.s66_source.specs.Printed.{Placed}
-use Rattle.s66_source.specs.Replaced.{anew_text, text_for}
+use Rattle.s66_source.specs.{Flagged, after_line, class_at, flagged_from, is_alone, indented_line, indented_lines, indents, line_start, Placed, anew_text, text_for, Line, classes_from, label_after}
+use Rattle.s66_source.specs.{label_at, operand_refusal, place_after, place_at, refusal, run_after, run_at, Standing, Redefined}
 use Rattle.s66_source.specs.declared.columns.Columns.{Columns}
-use Rattle.s66_source.specs.Source.{Line, classes_from, label_after, label_at, operand_refusal, place_after, place_at, refusal, run_after, run_at}
-use Rattle.s66_source.specs.LeftAlone.{Standing}
 use Rattle.s66_source.proofs.CharactersRead.{SpellsAll}
 use Rattle.s66_source.proofs.FlaggedLines.{same-alone}
 use Rattle.s66_source.proofs.FarOperands.{Fits, clear-printed, is_unclear, read-start}
-use Rattle.s66_source.specs.Redefinitions.{Redefined}
 use Rattle.s66_source.proofs.ReadAgain.{none-refused, rest-taken}
 use Rattle.s66_source.proofs.ReadBack.{lines_of-line, trim-twice}
 use Rattle.s66_source.proofs.ReadBlock.{IsPrintable, IsSoundBlock, comments-front, front_text, printable-at, quiet-printable}
@@ -33,8 +21,8 @@ use Rattle.s66_source.proofs.ReadLine.{IsLabel, every-trimmed, inside-start}
 use Rattle.s66_source.proofs.ReadStanding.{IsQuiet, after-body, alone-body, class_at-body, code-unflagged, comment-stays, flagged_at, goes_on, is_flagged, is_holding, not-alone}
 use Rattle.s66_source.proofs.ReaderBlocks.{next-index}
 use Rattle.s66_source.proofs.Standings.{code-line, code-stays}
-use Rattle.s66_compare.specs.Difference.{Shape}
 use Rattle.s66_source.proofs.Runs.{begun}
+use Rattle.s66_compare.specs.{Shape}
 use Rattle.s66_compare.proofs.FrameRuns.{Reached, block_shape, emit, first_label, line_shape, next, reached, runs}
 
 -- an unlabelled block may begin next

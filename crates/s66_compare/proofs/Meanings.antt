@@ -1,17 +1,11 @@
 -- A block that is another one in a legal order leaves what that one leaves.
 use Rattle.std.proofs.Common.{ℕ, zero, suc, ◌+◌, ◌≡◌, ◌≤◌, ◌∙◌, List, [], ◌∷◌, ◌++◌, length, map, refl, ap, ap₂, sym, arith}
-use Rattle.s66_isa.specs.Lists.{rising}
-use Rattle.s66_isa.specs.Table.{instr_at, numbers}
-use Rattle.s66_isa.specs.declared.instr.Instr.{Instr}
-use Rattle.s66_line.specs.Blocks.{Block, bytes_of, constants_in, instrs_of, text_of, whole_text_of}
-use Rattle.s66_line.specs.Characters.{characters_in, rest_in}
-use Rattle.s66_line.specs.InstructionText.{IsTextOf, Spells, instr_in_text, operand_in}
-use Rattle.s66_line.specs.Operand.{constant_of, instr_of}
-use Rattle.s66_line.proofs.InstructionTexts.{operand_in-spelling, operation_in-spelling}
-use Rattle.s66_model.specs.LegalOrder.{IsLegal}
-use Rattle.s66_model.specs.Meaning.{Contents, Operation, after, at_start, meaning, operation_at, run}
+use Rattle.s66_isa.specs.{rising, instr_at, numbers, Instr}
+use Rattle.s66_model.specs.{IsLegal, Contents, Operation, after, at_start, meaning, operation_at, run}
 use Rattle.s66_model.proofs.MeaningOfOrders.{legal-meaning}
-use Rattle.s66_compare.specs.Pairing.{AreWithin, texts_of}
+use Rattle.s66_line.specs.{Block, bytes_of, constants_in, instrs_of, text_of, whole_text_of, characters_in, rest_in, IsTextOf, Spells, instr_in_text, operand_in, constant_of, instr_of}
+use Rattle.s66_line.proofs.InstructionTexts.{operand_in-spelling, operation_in-spelling}
+use Rattle.s66_compare.specs.{AreWithin, texts_of}
 use Rattle.s66_compare.proofs.WholeTexts.{operand_in-whole, operation_in-whole, rest_in-whole}
 
 -- the instructions of a block are those of their texts

@@ -1,17 +1,11 @@
 -- The first number on which an instruction depends and which isn't there, by the set of all such.
-use Rattle.std.proofs.Common.{ℕ, ◌+◌, ◌-◌, ◌≡◌, ◌≤◌, ◌∙◌, Bool, true, false, not, ◌&&◌, List, [], ◌∷◌, length, get_or, refl, ap, leb, ltb}
+use Rattle.std.proofs.Common.{ℕ, ◌+◌, ◌-◌, ◌≡◌, ◌≤◌, ◌∙◌, Bool, true, false, not, ◌&&◌, List, [], ◌∷◌, length, get_or, refl, ap, leb, ltb, filter}
 use Rattle.std.proofs.lemmas.Bool.{cond_both}
-use Rattle.std.specs.List.{filter}
-use Rattle.s66_isa.specs.Lists.{first_that, has}
-use Rattle.s66_isa.specs.Members.{numbers_in}
-use Rattle.s66_isa.specs.Table.{numbers}
-use Rattle.s66_isa.specs.declared.instr.Instr.{Instr}
-use Rattle.s66_isa.specs.declared.limits.TheConstants.{BLOCK_LIMIT}
-use Rattle.s66_isa.specs.declared.set.Set.{Set}
+use Rattle.s66_isa.specs.{first_that, has, numbers_in, numbers, Instr, BLOCK_LIMIT, Set}
 use Rattle.s66_isa.proofs.Sets.{filter-within, numbers_in-filter}
-use Rattle.s66_model.specs.Dependence.{all_needs, depends}
+use Rattle.s66_model.specs.{all_needs, depends}
 use Rattle.s66_time.proofs.Readiness.{needs-at}
-use Rattle.s66_compare.specs.Verdict.{is_missing}
+use Rattle.s66_compare.specs.{is_missing}
 
 -- THE FIRST THAT PASSES, by all that do
 

@@ -1,14 +1,8 @@
 -- What is printed for a `NO`, by whether its block stands.
-use Rattle.std.proofs.Common.{◌≡◌, ◌&&◌, ◌||◌, ◌==◌, ◌∙◌, not, ℕ, suc, Bool, true, false, if◌then◌else◌, Option, None, Some, List, [], ◌∷◌, refl, ap, ap₂}
-use Rattle.std.specs.Prelude.{is_none}
-use Rattle.s66_isa.specs.Lists.{some_of}
-use Rattle.s66_line.specs.Blocks.{Block}
-use Rattle.s66_line.specs.Classes.{is_instruction}
-use Rattle.s66_line.specs.declared.class.Class.TheVariants.{Pad}
-use Rattle.s66_source.specs.Printed.{copied_line}
-use Rattle.s66_source.specs.Replaced.{begun, line_text, owner, text_for}
-use Rattle.s66_source.specs.Roles.{has_block, is_comment_class, is_dropped, is_leading, is_note, is_note_of, is_pad_class}
-use Rattle.s66_source.specs.Source.{Line, blocks_of}
+use Rattle.std.proofs.Common.{◌≡◌, ◌&&◌, ◌||◌, ◌==◌, ◌∙◌, not, ℕ, suc, Bool, true, false, if◌then◌else◌, Option, None, Some, List, [], ◌∷◌, refl, ap, ap₂, is_none}
+use Rattle.s66_isa.specs.{some_of}
+use Rattle.s66_line.specs.{Block, is_instruction, Pad}
+use Rattle.s66_source.specs.{copied_line, begun, line_text, owner, text_for, has_block, is_comment_class, is_dropped, is_leading, is_note, is_note_of, is_pad_class, Line, blocks_of}
 use Rattle.s66_source.proofs.LineTexts.{IsTold, text_at}
 
 -- the block of this number stands, as does whatever is of none

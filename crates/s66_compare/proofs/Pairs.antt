@@ -1,17 +1,11 @@
 -- What `paired` makes of the instructions of two blocks, step by step.
-use Rattle.std.proofs.Common.{ℕ, zero, suc, ◌+◌, ◌-◌, ◌≡◌, ◌≤◌, ◌<◌, ◌∙◌, false, List, [], ◌∷◌, ◌++◌, length, map, take, drop, get_or, refl, ap, sym, arith}
-use Rattle.std.specs.Prelude.{◌==◌}
-use Rattle.std.proofs.lemmas.Bool.{ne_eqb}
+use Rattle.std.proofs.Common.{ℕ, zero, suc, ◌+◌, ◌-◌, ◌≡◌, ◌≤◌, ◌<◌, ◌∙◌, false, List, [], ◌∷◌, ◌++◌, length, map, take, drop, get_or, refl, ap, sym, arith, ◌==◌, ne_eqb}
 use Rattle.std.proofs.lemmas.List.{drop_all, drop_more, take_more}
-use Rattle.s66_isa.specs.Lists.{rising}
-use Rattle.s66_isa.specs.declared.instr.Instr.{Instr}
-use Rattle.s66_line.specs.Blocks.{Block, instrs_of, whole_text_of}
-use Rattle.s66_compare.specs.Pairing.{AreWithin, partner, partners}
-use Rattle.s66_compare.specs.Verdict.{by_order, first_missing}
-use Rattle.s66_compare.specs.declared.verdict.BlockVerdict.{BlockVerdict}
-use Rattle.s66_compare.specs.declared.verdict.BlockVerdict.TheVariants.{NotLegal}
-use Rattle.s66_compare.proofs.Firsts.{rising_none}
+use Rattle.s66_isa.specs.{rising, Instr}
 use Rattle.s66_isa.proofs.Lists.{rising-next}
+use Rattle.s66_line.specs.{Block, instrs_of, whole_text_of}
+use Rattle.s66_compare.specs.{AreWithin, partner, partners, by_order, first_missing, BlockVerdict, NotLegal}
+use Rattle.s66_compare.proofs.Firsts.{rising_none}
 
 -- NUMBERS OF A BLOCK
 

@@ -3,22 +3,13 @@ use Rattle.std.proofs.Common.{ℕ, zero, suc, ◌≡◌, ◌≤◌, ◌∙◌, t
 use Rattle.std.proofs.lemmas.Bool.{and_from}
 use Rattle.std.proofs.lemmas.List.{length-map}
 use Rattle.std.proofs.lemmas.Simd.{map-map}
-use Rattle.s66_isa.specs.Lists.{Among, every, rising}
-use Rattle.s66_isa.specs.Table.{instr_at, numbers}
-use Rattle.s66_isa.specs.declared.instr.Instr.{Instr}
-use Rattle.s66_isa.specs.declared.profile.Profile.{Profile}
-use Rattle.s66_line.specs.Blocks.{Block, Entry, bytes_of, instrs_of, text_of, whole_text_of}
-use Rattle.s66_line.specs.Fields.{trim, upper, is_trailing}
-use Rattle.s66_line.specs.InstructionText.{IsTextOf, spelling}
-use Rattle.s66_model.specs.LegalOrder.{IsLegal}
+use Rattle.s66_isa.specs.{Among, every, rising, instr_at, numbers, Instr, Profile}
+use Rattle.s66_model.specs.{IsLegal}
 use Rattle.s66_model.proofs.Beginnings.{source-legal}
-use Rattle.s66_source.specs.Replaced.{AreGiven, others}
-use Rattle.s66_source.specs.Printed.{Placed}
-use Rattle.s66_source.specs.ReadAgain.{AreComplete, AreGivenAgain, IsGivenAgain, IsPlacedAgain, IsSameAgain}
+use Rattle.s66_line.specs.{Block, Entry, bytes_of, instrs_of, text_of, whole_text_of, trim, upper, is_trailing, IsTextOf, spelling}
+use Rattle.s66_source.specs.{AreGiven, others, Placed, AreComplete, AreGivenAgain, IsGivenAgain, IsPlacedAgain, IsSameAgain}
 use Rattle.s66_source.proofs.ReadLine.{characters-again, operand-again, operation-again}
-use Rattle.s66_compare.specs.Pairing.{paired, texts_of}
-use Rattle.s66_compare.specs.Rows.{is_legal, rows_of}
-use Rattle.s66_compare.specs.Verdict.{is_kept, verdict_of}
+use Rattle.s66_compare.specs.{paired, texts_of, is_legal, rows_of, is_kept, verdict_of}
 use Rattle.s66_compare.proofs.KeptPairs.{order-kept}
 use Rattle.s66_compare.proofs.Meanings.{IsSpelled, spells-bytes}
 use Rattle.s66_compare.proofs.WholeTexts.{whole_text_in}

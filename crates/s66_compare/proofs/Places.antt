@@ -1,7 +1,6 @@
 -- The place of a number in an order, as `place_of` looks for it from a place on.
-use Rattle.std.proofs.Common.{ℕ, suc, ◌+◌, ◌-◌, ◌≡◌, ◌≤◌, ◌<◌, ◌∙◌, true, false, List, get_or, refl, ap, arith}
-use Rattle.std.specs.Prelude.{◌==◌}
-use Rattle.s66_isa.specs.Lists.{least_from}
+use Rattle.std.proofs.Common.{ℕ, suc, ◌+◌, ◌-◌, ◌≡◌, ◌≤◌, ◌<◌, ◌∙◌, true, false, List, get_or, refl, ap, arith, ◌==◌}
+use Rattle.s66_isa.specs.{least_from}
 
 -- from this place on
 abbrev pub place_from : (count : ℕ) (order : List ℕ) (n place : ℕ) → ℕ

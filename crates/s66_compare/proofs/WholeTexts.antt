@@ -1,10 +1,8 @@
 -- The whole text of an instruction: its operation, its operand and the characters that go on behind the operand's blank are those of the bytes.
 use Rattle.std.proofs.Common.{◌≡◌, ◌∙◌, ℕ, zero, suc, Bool, true, false, if◌then◌else◌, List, [], ◌∷◌, ◌++◌, Option, None, Some, take, refl, sym, ap, append_assoc}
-use Rattle.s66_isa.specs.Lists.{every}
-use Rattle.s66_line.specs.Characters.{begins_blank, characters_in, cut, place_after, rest_in, still_taken, taken_in}
-use Rattle.s66_line.specs.Fields.{after_word, is_blank, is_trailing, skip_blanks, trim, upper, word}
-use Rattle.s66_line.specs.InstructionText.{operand_in, operation_in, spelling}
-use Rattle.s66_line.specs.declared.characters.Place.TheVariants.{AtTerm}
+use Rattle.s66_isa.specs.{every}
+use Rattle.s66_line.specs.{begins_blank, characters_in, cut, place_after, rest_in, still_taken, taken_in, after_word, is_blank, is_trailing, skip_blanks, trim, upper, word, operand_in, operation_in}
+use Rattle.s66_line.specs.{spelling, AtTerm}
 use Rattle.s66_line.proofs.InstructionTexts.{after-before, filled-parts, is_no_blank, no_blank-word, word-before}
 use Rattle.s66_line.proofs.LineFields.{skip_blanks-no}
 use Rattle.s66_line.proofs.UpperCase.{blank-kept, upper-twice, upper-word}

@@ -1,13 +1,9 @@
 -- To be believed: a dependence that a new block breaks, by lines and instructions: which instruction comes before which, and why it must not.
 use Rattle.std.specs.Prelude.{ℕ, ◌+◌, ◌-◌, ◌==◌, if◌then◌else◌, Option, None, Some, List, [], ◌∷◌, ◌++◌, codes, decimal, get_or, length}
-use Rattle.s66_isa.specs.Lists.{least_from}
-use Rattle.s66_isa.specs.Table.{has_reg, instr_at, memory_of, reads_of, results_of}
-use Rattle.s66_isa.specs.declared.instr.Instr.{Instr}
-use Rattle.s66_isa.specs.declared.instr.Memory.{Memory}
+use Rattle.s66_isa.specs.{least_from, has_reg, instr_at, memory_of, reads_of, results_of, Instr, Memory, Reg}
 use Rattle.s66_isa.specs.declared.instr.Memory.TheVariants as memory
-use Rattle.s66_isa.specs.declared.reg.Reg.{Reg}
-use Rattle.s66_line.specs.Blocks.{Block, instrs_of, line_of, whole_text_of}
-use Rattle.s66_why.specs.Why.{register_name}
+use Rattle.s66_line.specs.{Block, instrs_of, line_of, whole_text_of}
+use Rattle.s66_why.specs.{register_name}
 
 -- WHY an instruction depends on one before it
 

@@ -1,11 +1,8 @@
 -- To be believed: what `compare` writes of an old source and a new one.
 use Rattle.std.specs.Prelude.{ℕ, ◌≡◌, ◌+◌, Bool, true, ◌&&◌, if◌then◌else◌, List, [], ◌∷◌, ◌++◌, Option, None, Some, Ok, codes, decimal, is_none, slice_get}
-use Rattle.s66_isa.specs.Lists.{after_blanks, every, tally, weigh}
-use Rattle.s66_isa.specs.declared.profile.Profile.{Profile}
-use Rattle.s66_line.specs.Blocks.{Block}
-use Rattle.s66_source.specs.Frame.{frame_of}
-use Rattle.s66_source.specs.LeftAlone.{Reading}
-use Rattle.s66_source.specs.Source.{source_of}
+use Rattle.s66_isa.specs.{after_blanks, every, tally, weigh, Profile}
+use Rattle.s66_line.specs.{Block}
+use Rattle.s66_source.specs.{frame_of, Reading, source_of}
 use Rattle.s66_compare.specs.Broken.{broken_text}
 use Rattle.s66_compare.specs.Difference.{first_difference}
 use Rattle.s66_compare.specs.Rows.{AreAligned, counted, has_new, has_old, is_legal, new_time, old_time}

@@ -1,6 +1,6 @@
 -- To be believed: where two frames first differ.
 use Rattle.std.specs.Prelude.{ℕ, ◌≡◌, ◌≢◌, Bool, ◌&&◌, not, if◌then◌else◌, List, [], ◌∷◌, Option, None, Some, bytes_eq, map, option_map, slice_get, take}
-use Rattle.s66_source.specs.Frame.{FramePart}
+use Rattle.s66_source.specs.{FramePart}
 use Rattle.s66_compare.specs.declared.difference.Difference.{Difference}
 
 -- they may stand in other lines

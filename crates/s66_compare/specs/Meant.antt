@@ -1,12 +1,9 @@
 -- To be believed: what an accepted comparison says of two sources.
 use Rattle.std.specs.Prelude.{ℕ, ◌≡◌, List, [], ◌∷◌, Ok, map}
-use Rattle.s66_isa.specs.Table.{numbers}
-use Rattle.s66_line.specs.Blocks.{Block, constants_in, instrs_of, whole_text_of}
-use Rattle.s66_model.specs.LegalOrder.{IsLegal}
-use Rattle.s66_model.specs.Meaning.{meaning}
-use Rattle.s66_source.specs.Frame.{frame_of}
-use Rattle.s66_source.specs.LeftAlone.{Reading}
-use Rattle.s66_source.specs.Source.{source_of}
+use Rattle.s66_isa.specs.{numbers}
+use Rattle.s66_model.specs.{IsLegal, meaning}
+use Rattle.s66_line.specs.{Block, constants_in, instrs_of, whole_text_of}
+use Rattle.s66_source.specs.{frame_of, Reading, source_of}
 use Rattle.s66_compare.specs.Difference.{shapes}
 use Rattle.s66_compare.specs.Pairing.{texts_of}
 

@@ -1,9 +1,8 @@
 -- To be believed: which instruction of an old block each instruction of a new one is: instructions are the same if their texts are, with all
 -- characters of their operands, and equal texts are the same in order.
 use Rattle.std.specs.Prelude.{ℕ, ◌≤◌, Bool, ◌&&◌, ◌==◌, not, if◌then◌else◌, List, [], ◌∷◌, ◌++◌, bytes_eq, map}
-use Rattle.s66_isa.specs.Lists.{first_that, has}
-use Rattle.s66_isa.specs.Table.{numbers}
-use Rattle.s66_line.specs.Blocks.{Block, instrs_of, whole_text_of}
+use Rattle.s66_isa.specs.{first_that, has, numbers}
+use Rattle.s66_line.specs.{Block, instrs_of, whole_text_of}
 
 abbrev pub texts_of : Block → List (List ℕ)
 texts_of block = map (whole_text_of block) (numbers (instrs_of block))

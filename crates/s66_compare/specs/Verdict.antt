@@ -1,10 +1,8 @@
 -- To be believed: what is said of an old block and a new one.
 use Rattle.std.specs.Prelude.{ℕ, Bool, true, false, ◌&&◌, ◌==◌, ◌+◌, not, if◌then◌else◌, List, [], ◌∷◌, ◌++◌, bytes_eq, length, nat_lt}
-use Rattle.s66_isa.specs.Lists.{first_that, has}
-use Rattle.s66_isa.specs.Table.{numbers}
-use Rattle.s66_isa.specs.declared.instr.Instr.{Instr}
-use Rattle.s66_line.specs.Blocks.{Block, instrs_of, line_of}
-use Rattle.s66_model.specs.Dependence.{depends}
+use Rattle.s66_isa.specs.{first_that, has, numbers, Instr}
+use Rattle.s66_model.specs.{depends}
+use Rattle.s66_line.specs.{Block, instrs_of, line_of}
 use Rattle.s66_compare.specs.Pairing.{first_left, paired}
 use Rattle.s66_compare.specs.declared.verdict.BlockVerdict.{BlockVerdict}
 use Rattle.s66_compare.specs.declared.verdict.BlockVerdict.TheVariants.{NotLegal, OtherNew, OtherOld, Reordered, Same}

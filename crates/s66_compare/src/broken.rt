@@ -1,9 +1,9 @@
 //! The text of why an order isn't legal: which two lines stand in reverse, and by which register or memory one depends on the other.
 
 ghost use Rattle.std.specs.Prelude.{◌≡◌, ◌≤◌, ◌<◌, ◌+◌, ◌-◌, ◌==◌, ◌++◌, OnOk, get_or, length};
-ghost use Rattle.s66_line.specs.Blocks.{instrs_of};
-ghost use Rattle.s66_why.specs.Why.{register_name};
-ghost use Rattle.s66_compare.specs.Broken.{broken_text, first_shared, memory_reason, access, broken_at, instruction_text, pair_text, place_of, reason};
+ghost use Rattle.s66_line.specs.{instrs_of};
+ghost use Rattle.s66_why.specs.{register_name};
+ghost use Rattle.s66_compare.specs.{broken_text, first_shared, memory_reason, access, broken_at, instruction_text, pair_text, place_of, reason};
 
 use s66_device::push_field;
 use s66_isa::{Instr, Memory, Reg, has_register};

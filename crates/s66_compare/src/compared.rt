@@ -2,7 +2,7 @@
 //! accepted.
 
 ghost use Rattle.std.specs.Prelude.{◌≡◌, IfOk};
-ghost use Rattle.s66_compare.specs.Compared.{IsCompared, is_accepted};
+ghost use Rattle.s66_compare.specs.{IsCompared, is_accepted};
 
 use crate::difference::{Difference, difference_of};
 use crate::rows::{Row, aligned_rows, are_legal};

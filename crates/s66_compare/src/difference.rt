@@ -1,8 +1,8 @@
 //! Where what stands beside the blocks of two sources first differs.
 
 ghost use Rattle.std.specs.Prelude.{◌≡◌, IfOk};
-ghost use Rattle.s66_source.specs.Frame.{frame_of};
-ghost use Rattle.s66_compare.specs.Difference.{first_difference, is_alike};
+ghost use Rattle.s66_source.specs.{frame_of};
+ghost use Rattle.s66_compare.specs.{first_difference, is_alike};
 
 use s66_source::{FramePart, Source, frame_of};
 use std::alloc::{AllocError, Global};

@@ -1,17 +1,11 @@
 //! What an accepted comparison means: contracts of functions that do nothing.
 
 ghost use Rattle.std.specs.Prelude.{ℕ, Bool, List, [], ◌∷◌, ◌≡◌, true, false, None, Some, codes};
-ghost use Rattle.s66_isa.specs.declared.profile.Profile.{Profile};
-ghost use Rattle.s66_line.specs.Blocks.{block_of_texts};
-ghost use Rattle.s66_source.specs.Frame.{FramePart, frame_of};
-ghost use Rattle.s66_source.specs.Halves.{halves_of};
-ghost use Rattle.s66_source.specs.LeftAlone.{Reading, plain};
-ghost use Rattle.s66_compare.specs.Compared.{IsCompared};
-ghost use Rattle.s66_compare.specs.Difference.{DifferFirst, first_difference, shapes};
-ghost use Rattle.s66_compare.specs.Meant.{KeepsSource};
-ghost use Rattle.s66_compare.specs.Verdict.{judged};
+ghost use Rattle.s66_isa.specs.{Profile};
+ghost use Rattle.s66_line.specs.{block_of_texts};
+ghost use Rattle.s66_source.specs.{FramePart, frame_of, halves_of, Reading, plain};
+ghost use Rattle.s66_compare.specs.{IsCompared, DifferFirst, first_difference, shapes, KeepsSource, judged, NotLegal, OtherNew, OtherOld, Reordered, Same};
 ghost use Rattle.s66_compare.specs.declared.difference.Difference.{Difference};
-ghost use Rattle.s66_compare.specs.declared.verdict.BlockVerdict.TheVariants.{NotLegal, OtherNew, OtherOld, Reordered, Same};
 
 /// If the new source is accepted, each of its blocks has the instructions of the old one, with all characters of their operands, in a
 /// legal order, and so leaves the same in all registers and in memory; and what stands beside the blocks is the same. Comments and

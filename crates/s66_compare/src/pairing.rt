@@ -1,10 +1,9 @@
 //! Which instruction of an old block each of a new one is: the first with the same text that isn't taken.
 
 ghost use Rattle.std.specs.Prelude.{◌≡◌, ◌≤◌, IfSome, IfNone, length};
-ghost use Rattle.s66_isa.specs.Lists.{has};
-ghost use Rattle.s66_isa.specs.declared.limits.TheConstants.{BLOCK_LIMIT};
-ghost use Rattle.s66_line.specs.Blocks.{instrs_of};
-ghost use Rattle.s66_compare.specs.Pairing.{AreWithin, first_left, is_open, paired, partner};
+ghost use Rattle.s66_isa.specs.{has, BLOCK_LIMIT};
+ghost use Rattle.s66_line.specs.{instrs_of};
+ghost use Rattle.s66_compare.specs.{AreWithin, first_left, is_open, paired, partner};
 
 use arrayvec::ArrayVec;
 use s66_isa::BLOCK_LIMIT;

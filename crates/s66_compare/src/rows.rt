@@ -1,10 +1,9 @@
 //! The blocks of two sources side by side, with their times and what is said of them.
 
 ghost use Rattle.std.specs.Prelude.{List, ◌≡◌, ◌≤◌, ◌+◌, [], ◌∷◌, ◌++◌, drop, length, IfOk, OnOk};
-ghost use Rattle.s66_line.specs.Blocks.{Block as BlockOf};
-ghost use Rattle.s66_compare.specs.declared.alignment.Step.{Step as StepOf};
-ghost use Rattle.s66_isa.specs.Lists.{every};
-ghost use Rattle.s66_compare.specs.Rows.{AreAligned, AreOfBlocks, both, is_legal, rows_by, rows_of, side_of};
+ghost use Rattle.s66_isa.specs.{every};
+ghost use Rattle.s66_line.specs.{Block as BlockOf};
+ghost use Rattle.s66_compare.specs.{Step as StepOf, AreAligned, AreOfBlocks, both, is_legal, rows_by, rows_of, side_of};
 
 use crate::alignment::{Step, align};
 use crate::verdict::{Judged, judge};

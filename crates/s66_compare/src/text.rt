@@ -2,10 +2,10 @@
 //! the blocks differs, and the sums.
 
 ghost use Rattle.std.specs.Prelude.{◌≡◌, ◌≤◌, ◌*◌, ◌^◌, ◌<◌, ◌++◌, codes, decimal, length, slice_get, IfOk, OnOk};
-ghost use Rattle.s66_isa.specs.Lists.{after_blanks, tally, weigh};
-ghost use Rattle.s66_source.specs.declared.limits.TheConstants.{SOURCE_LINES_LIMIT};
-ghost use Rattle.s66_compare.specs.Compared.{compared_text, difference_line, ending_text, line_text, row_line, row_lines, not_legal_text, row_text, side_text, sums_text, total_text, verdict_text};
-ghost use Rattle.s66_compare.specs.Rows.{has_new, has_old, is_legal, new_time, old_time};
+ghost use Rattle.s66_isa.specs.{after_blanks, tally, weigh};
+ghost use Rattle.s66_source.specs.{SOURCE_LINES_LIMIT};
+ghost use Rattle.s66_compare.specs.{compared_text, difference_line, ending_text, line_text, row_line, row_lines, not_legal_text, row_text, side_text, sums_text, total_text, verdict_text, has_new};
+ghost use Rattle.s66_compare.specs.{has_old, is_legal, new_time, old_time};
 
 use crate::broken::push_broken;
 use crate::difference::Difference;
@@ -213,7 +213,7 @@ struct Total {
 
 impl Row {
     ghost use Rattle.std.specs.Prelude.{◌≡◌};
-    ghost use Rattle.s66_compare.specs.Rows.{has_new, has_old, is_legal, new_time, old_time};
+    ghost use Rattle.s66_compare.specs.{has_new, has_old, is_legal, new_time, old_time};
 
     /// Whether the old source has a block.
     pub fn has_old(&self) -> bool

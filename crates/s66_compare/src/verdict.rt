@@ -1,10 +1,9 @@
 //! What a new block is beside an old one: the same, in another legal order, in one that isn't legal, or with other instructions.
 
 ghost use Rattle.std.specs.Prelude.{◌≡◌, [], length};
-ghost use Rattle.s66_isa.specs.declared.limits.TheConstants.{BLOCK_LIMIT};
-ghost use Rattle.s66_line.specs.Blocks.{instrs_of};
-ghost use Rattle.s66_compare.specs.Pairing.{AreWithin};
-ghost use Rattle.s66_compare.specs.Verdict.{by_order, judged, kept_verdict, verdict_of};
+ghost use Rattle.s66_isa.specs.{BLOCK_LIMIT};
+ghost use Rattle.s66_line.specs.{instrs_of};
+ghost use Rattle.s66_compare.specs.{AreWithin, by_order, judged, kept_verdict, verdict_of};
 
 use crate::pairing::{first_left, paired};
 use arrayvec::ArrayVec;
@@ -30,7 +29,7 @@ pub enum BlockVerdict {
 
 impl BlockVerdict {
     ghost use Rattle.std.specs.Prelude.{◌≡◌};
-    ghost use Rattle.s66_compare.specs.Verdict.{is_kept};
+    ghost use Rattle.s66_compare.specs.{is_kept};
 
     /// Whether the new block is the old one in a legal order.
     pub fn is_kept(&self) -> bool
@@ -57,8 +56,8 @@ impl Model for Judged {
 
 impl Judged {
     ghost use Rattle.std.specs.Prelude.{◌≡◌, IfSome, is_some};
-    ghost use Rattle.s66_line.specs.Blocks.{Block as BlockOf, instrs_of};
-    ghost use Rattle.s66_compare.specs.Verdict.{is_kept, judged};
+    ghost use Rattle.s66_line.specs.{Block as BlockOf, instrs_of};
+    ghost use Rattle.s66_compare.specs.{is_kept, judged};
 
     /// The order in which the new block has the old one's instructions, if that keeps every dependence. It looks at each two instructions
     /// once.

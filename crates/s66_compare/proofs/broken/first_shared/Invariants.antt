@@ -1,5 +1,5 @@
 use Rattle.std.proofs.Common.{◌≡◌, drop}
-use Rattle.s66_compare.specs.Broken.{first_shared}
+use Rattle.s66_compare.specs.{first_shared}
 use Rattle.s66_compare.proofs.broken.first_shared.Given as goal
 
 abbrev pub invariant-loop-register : goal.invariant-loop-register

@@ -1,7 +1,6 @@
-use Rattle.std.proofs.Common.{◌≡◌, ◌-◌, get_or}
-use Rattle.std.specs.Prelude.{◌==◌}
-use Rattle.s66_isa.specs.Lists.{least_from}
-use Rattle.s66_compare.specs.Broken.{place_of}
+use Rattle.std.proofs.Common.{◌≡◌, ◌-◌, get_or, ◌==◌}
+use Rattle.s66_isa.specs.{least_from}
+use Rattle.s66_compare.specs.{place_of}
 use Rattle.s66_compare.proofs.broken.place_of.Given as goal
 
 abbrev pub invariant-loop-place : goal.invariant-loop-place

@@ -1,6 +1,6 @@
 use Rattle.std.proofs.Common.{◌++◌, ◌+◌, ◌∙◌, ap, ap₂}
 use Rattle.std.proofs.lemmas.Result.{IfOk-equal}
-use Rattle.s66_compare.specs.Broken.{broken_at, broken_text, place_of}
+use Rattle.s66_compare.specs.{broken_at, broken_text, place_of}
 use Rattle.s66_compare.proofs.broken.push_broken.Goals as goal
 
 pub returns : goal.returns

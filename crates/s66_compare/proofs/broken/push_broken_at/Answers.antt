@@ -1,8 +1,8 @@
 use Rattle.std.proofs.Common.{◌≡◌, ◌++◌, ◌∙◌, ap, ap₂, codes}
 use Rattle.std.proofs.lemmas.Result.{IfOk-equal}
-use Rattle.s66_isa.specs.Table.{instr_at}
-use Rattle.s66_line.specs.Blocks.{instrs_of}
-use Rattle.s66_compare.specs.Broken.{broken_at, pair_text, reason}
+use Rattle.s66_isa.specs.{instr_at}
+use Rattle.s66_line.specs.{instrs_of}
+use Rattle.s66_compare.specs.{broken_at, pair_text, reason}
 use Rattle.s66_compare.proofs.Texts.{three-pieces}
 use Rattle.s66_compare.proofs.broken.push_broken_at.Goals as goal
 

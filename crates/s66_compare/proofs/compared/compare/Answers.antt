@@ -1,9 +1,6 @@
 use Rattle.std.proofs.Common.{◌≡◌, ◌≤◌, ◌*◌, ◌∙◌, List, length, ap₂, subst, sym}
-use Rattle.s66_source.specs.Frame.{frame_of}
-use Rattle.s66_source.specs.declared.limits.TheConstants.{SOURCE_LINES_LIMIT}
-use Rattle.s66_compare.specs.Compared.{compared_text, is_accepted}
-use Rattle.s66_compare.specs.Difference.{first_difference}
-use Rattle.s66_compare.specs.declared.rows.Row.{Row}
+use Rattle.s66_source.specs.{frame_of, SOURCE_LINES_LIMIT}
+use Rattle.s66_compare.specs.{compared_text, is_accepted, first_difference, Row}
 use Rattle.s66_compare.proofs.Accepted.{few-rows}
 use Rattle.s66_compare.proofs.compared.compare.Goals as goal
 

@@ -1,5 +1,5 @@
 use Rattle.std.proofs.Common.{◌≡◌, drop}
-use Rattle.s66_compare.specs.Difference.{first_difference}
+use Rattle.s66_compare.specs.{first_difference}
 use Rattle.s66_compare.proofs.difference.first_difference.Given as goal
 
 abbrev pub invariant-loop-place : goal.invariant-loop-place

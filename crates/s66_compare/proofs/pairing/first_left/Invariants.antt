@@ -1,7 +1,7 @@
 use Rattle.std.proofs.Common.{◌≡◌, ◌+◌, ◌-◌, not, length}
-use Rattle.s66_isa.specs.Lists.{first_that, has, rising}
-use Rattle.s66_line.specs.Blocks.{instrs_of}
-use Rattle.s66_compare.specs.Pairing.{first_left}
+use Rattle.s66_isa.specs.{first_that, has, rising}
+use Rattle.s66_line.specs.{instrs_of}
+use Rattle.s66_compare.specs.{first_left}
 use Rattle.s66_compare.proofs.pairing.first_left.Given as goal
 
 abbrev pub invariant-loop-position : goal.invariant-loop-position

@@ -1,7 +1,6 @@
-use Rattle.std.proofs.Common.{◌≡◌, ◌+◌, ◌++◌, ◌∷◌, ◌∙◌, List, ℕ, [], length, ap, sym, subst, arith}
-use Rattle.std.proofs.lemmas.List.{length-append}
-use Rattle.s66_line.specs.Blocks.{instrs_of, whole_text_of}
-use Rattle.s66_compare.specs.Pairing.{AreWithin, partner, partners}
+use Rattle.std.proofs.Common.{◌≡◌, ◌+◌, ◌++◌, ◌∷◌, ◌∙◌, List, ℕ, [], length, ap, sym, subst, arith, length-append}
+use Rattle.s66_line.specs.{instrs_of, whole_text_of}
+use Rattle.s66_compare.specs.{AreWithin, partner, partners}
 use Rattle.s66_compare.proofs.Pairs.{partners_next, texts_from, within_push}
 use Rattle.s66_compare.proofs.pairing.paired.Goals as goal
 

@@ -1,6 +1,6 @@
 use Rattle.std.proofs.Common.{◌≡◌, length}
-use Rattle.s66_line.specs.Blocks.{instrs_of}
-use Rattle.s66_compare.specs.Pairing.{AreWithin, paired, partners}
+use Rattle.s66_line.specs.{instrs_of}
+use Rattle.s66_compare.specs.{AreWithin, paired, partners}
 use Rattle.s66_compare.proofs.Pairs.{texts_from}
 use Rattle.s66_compare.proofs.pairing.paired.Given as goal
 

@@ -1,7 +1,7 @@
 use Rattle.std.proofs.Common.{◌≡◌, ◌+◌, ◌-◌, length}
-use Rattle.s66_isa.specs.Lists.{first_that, rising}
-use Rattle.s66_line.specs.Blocks.{instrs_of}
-use Rattle.s66_compare.specs.Pairing.{is_open, partner}
+use Rattle.s66_isa.specs.{first_that, rising}
+use Rattle.s66_line.specs.{instrs_of}
+use Rattle.s66_compare.specs.{is_open, partner}
 use Rattle.s66_compare.proofs.pairing.partner.Given as goal
 
 abbrev pub invariant-loop-position : goal.invariant-loop-position

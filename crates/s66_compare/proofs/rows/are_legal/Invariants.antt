@@ -1,6 +1,6 @@
 use Rattle.std.proofs.Common.{◌≡◌, drop}
-use Rattle.s66_isa.specs.Lists.{every}
-use Rattle.s66_compare.specs.Rows.{is_legal}
+use Rattle.s66_isa.specs.{every}
+use Rattle.s66_compare.specs.{is_legal}
 use Rattle.s66_compare.proofs.rows.are_legal.Given as goal
 
 abbrev pub invariant-loop-row : goal.invariant-loop-row

@@ -1,5 +1,5 @@
 use Rattle.std.proofs.Common.{◌≡◌, ◌≤◌, ◌++◌, drop, length}
-use Rattle.s66_compare.specs.Rows.{rows_by}
+use Rattle.s66_compare.specs.{rows_by}
 use Rattle.s66_compare.proofs.rows.push_by_steps.Given as goal
 
 abbrev pub invariant-loop-step : goal.invariant-loop-step

@@ -1,5 +1,5 @@
 use Rattle.std.proofs.Common.{◌≡◌, ◌++◌, drop}
-use Rattle.s66_compare.specs.Rows.{rows_of}
+use Rattle.s66_compare.specs.{rows_of}
 use Rattle.s66_compare.proofs.rows.push_old.Given as goal
 
 abbrev pub invariant-loop-place : goal.invariant-loop-place

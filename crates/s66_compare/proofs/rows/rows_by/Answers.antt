@@ -1,5 +1,5 @@
 use Rattle.std.proofs.Common.{rules, ◌≡◌}
-use Rattle.s66_compare.specs.Rows.{rows_by}
+use Rattle.s66_compare.specs.{rows_by}
 use Rattle.s66_compare.proofs.RowBlocks.{stepped}
 use Rattle.s66_compare.proofs.rows.rows_by.Goals as goal
 

@@ -1,6 +1,6 @@
 use Rattle.std.proofs.Common.{◌≡◌, ◌++◌, ◌∙◌, ap₂, append_assoc}
 use Rattle.std.proofs.lemmas.Result.{IfOk-equal}
-use Rattle.s66_compare.specs.Compared.{difference_line, ending_text, total_line, total_text}
+use Rattle.s66_compare.specs.{difference_line, ending_text, total_line, total_text}
 use Rattle.s66_compare.proofs.Totals.{total-same}
 use Rattle.s66_compare.proofs.text.push_ending.Goals as goal
 

@@ -1,8 +1,6 @@
-use Rattle.std.proofs.Common.{◌≡◌, ◌<◌, ◌++◌, ap, arith, length, rules, true}
+use Rattle.std.proofs.Common.{◌≡◌, ◌<◌, ◌++◌, ap, arith, length, rules, true, slice_get}
 use Rattle.std.proofs.lemmas.Result.{IfOk-equal}
-use Rattle.std.specs.Prelude.{slice_get}
-use Rattle.s66_compare.specs.Broken.{broken_text}
-use Rattle.s66_compare.specs.Compared.{not_legal_text}
+use Rattle.s66_compare.specs.{broken_text, not_legal_text}
 use Rattle.s66_compare.proofs.BlockPlaces.{told_by_text}
 use Rattle.s66_compare.proofs.text.push_not_legal.Goals as goal
 

@@ -1,5 +1,5 @@
 use Rattle.std.proofs.Common.{◌≡◌, ◌++◌, drop}
-use Rattle.s66_isa.specs.Lists.{after_blanks}
+use Rattle.s66_isa.specs.{after_blanks}
 use Rattle.s66_compare.proofs.text.push_numbers.Given as goal
 
 abbrev pub invariant-loop-number : goal.invariant-loop-number

@@ -1,5 +1,5 @@
 use Rattle.std.proofs.Common.{◌≡◌, ◌≤◌, ◌++◌, drop}
-use Rattle.s66_compare.specs.Compared.{row_lines}
+use Rattle.s66_compare.specs.{row_lines}
 use Rattle.s66_compare.proofs.text.push_rows.Given as goal
 
 abbrev pub invariant-loop-row : goal.invariant-loop-row

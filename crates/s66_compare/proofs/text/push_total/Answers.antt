@@ -1,6 +1,6 @@
 use Rattle.std.proofs.Common.{rules, OnOk, ◌≡◌, ◌++◌, ◌∙◌, ap, codes, decimal}
 use Rattle.std.proofs.lemmas.Result.{IfOk-equal}
-use Rattle.s66_compare.specs.Compared.{sums_text, total_text}
+use Rattle.s66_compare.specs.{sums_text, total_text}
 use Rattle.s66_compare.proofs.Texts.{five-pieces}
 use Rattle.s66_compare.proofs.text.push_total.Goals as goal
 

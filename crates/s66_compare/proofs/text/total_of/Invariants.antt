@@ -1,6 +1,6 @@
 use Rattle.std.proofs.Common.{◌≡◌, ◌≤◌, ◌+◌, ◌*◌, ◌^◌, drop}
-use Rattle.s66_isa.specs.Lists.{tally, weigh}
-use Rattle.s66_compare.specs.Rows.{has_new, has_old, is_legal, new_time, old_time}
+use Rattle.s66_isa.specs.{tally, weigh}
+use Rattle.s66_compare.specs.{has_new, has_old, is_legal, new_time, old_time}
 use Rattle.s66_compare.proofs.text.total_of.Given as goal
 
 abbrev pub invariant-loop-row : goal.invariant-loop-row

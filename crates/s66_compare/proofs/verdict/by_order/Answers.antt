@@ -1,11 +1,10 @@
 use Rattle.std.proofs.Common.{ℕ, ◌-◌, ◌∙◌, ◌||◌, List, [], ap, sym, arith, take, get_or, length, eqb}
 use Rattle.std.proofs.lemmas.List.{take_more}
-use Rattle.s66_isa.specs.Lists.{has}
-use Rattle.s66_line.specs.Blocks.{instrs_of}
+use Rattle.s66_isa.specs.{has, numbers}
 use Rattle.s66_model.proofs.LegalOrders.{has-push}
+use Rattle.s66_line.specs.{instrs_of}
 use Rattle.s66_time.proofs.Opened.{count-needs}
-use Rattle.s66_compare.specs.Verdict.{is_missing, kept_verdict}
-use Rattle.s66_isa.specs.Table.{numbers}
+use Rattle.s66_compare.specs.{is_missing, kept_verdict}
 use Rattle.s66_compare.proofs.Missing.{first-none, first-some, missing-are}
 use Rattle.s66_compare.proofs.Pairs.{order_next, order_stop, within_at}
 use Rattle.s66_compare.proofs.verdict.by_order.Goals as goal

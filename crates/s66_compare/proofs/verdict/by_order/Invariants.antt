@@ -1,8 +1,7 @@
 use Rattle.std.proofs.Common.{ℕ, ◌≡◌, [], drop, take}
-use Rattle.s66_isa.specs.Lists.{has}
-use Rattle.s66_isa.specs.Members.{numbers_in}
-use Rattle.s66_line.specs.Blocks.{instrs_of}
-use Rattle.s66_compare.specs.Verdict.{by_order, kept_verdict}
+use Rattle.s66_isa.specs.{has, numbers_in}
+use Rattle.s66_line.specs.{instrs_of}
+use Rattle.s66_compare.specs.{by_order, kept_verdict}
 use Rattle.s66_compare.proofs.verdict.by_order.Given as goal
 
 abbrev pub invariant-loop-number : goal.invariant-loop-number

@@ -1,8 +1,7 @@
 use Rattle.std.proofs.Common.{◌≡◌, ◌∙◌, ap, subst, sym, true, true≢false}
-use Rattle.s66_line.specs.Blocks.{instrs_of}
-use Rattle.s66_model.specs.LegalOrder.{IsLegal}
-use Rattle.s66_compare.specs.Pairing.{paired}
-use Rattle.s66_compare.specs.Verdict.{Judged, is_kept, verdict_of}
+use Rattle.s66_model.specs.{IsLegal}
+use Rattle.s66_line.specs.{instrs_of}
+use Rattle.s66_compare.specs.{paired, Judged, is_kept, verdict_of}
 use Rattle.s66_compare.proofs.Legal.{kept-legal}
 use Rattle.s66_compare.proofs.verdict.Judged.kept_order.Goals as goal
 
