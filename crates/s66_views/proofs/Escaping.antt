@@ -1,8 +1,8 @@
 -- What an escaped text has, whatever its bytes are (`escape_law`).
 use Rattle.std.proofs.Common.{ℕ, ◌^◌, ◌<◌, ◌≡◌, true, List, [], ◌∷◌, arith, inl, inr, refl}
-use Rattle.s66_isa.specs.Lists.{Among, every, rising}
+use Rattle.s66_isa.specs.{Among, every, rising}
 use Rattle.s66_isa.proofs.Lists.{every-each, rising-among, every-append}
-use Rattle.s66_views.specs.Escape.{digits, escaped, escaped_byte, escaped_lines, escaped_or_newline, is_harmless, is_harmless_or_newline, is_reference_or}
+use Rattle.s66_views.specs.{digits, escaped, escaped_byte, escaped_lines, escaped_or_newline, is_harmless, is_harmless_or_newline, is_reference_or}
 
 harmless-byte : (b : ℕ) → b < 2 ^ 8 → every is_harmless (escaped_byte b) ≡ true
 unfolding digits

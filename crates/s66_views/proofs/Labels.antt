@@ -1,11 +1,9 @@
 -- The bytes of a text of a source and the characters of its JSON string determine one another (`bytes_law`).
-use Rattle.std.proofs.Common.{ℕ, ◌+◌, ◌*◌, ◌-◌, ◌/◌, ◌%◌, ◌^◌, ◌≤◌, ◌<◌, ◌≡◌, ◌∙◌, List, [], ◌∷◌, ◌++◌, ap, ap₂, arith, inl, inr, nat_lt, refl}
-use Rattle.std.proofs.lemmas.Bool.{cond-true, cond-false, le-ltb, lt-ltb}
-use Rattle.std.proofs.lemmas.Nat.{div-add-mod'}
-use Rattle.s66_isa.specs.Lists.{Among}
+use Rattle.std.proofs.Common.{ℕ, ◌+◌, ◌*◌, ◌-◌, ◌/◌, ◌%◌, ◌^◌, ◌≤◌, ◌<◌, ◌≡◌, ◌∙◌, List, [], ◌∷◌, ◌++◌, ap, ap₂, arith, inl, inr, nat_lt, refl, le-ltb, lt-ltb, div-add-mod'}
+use Rattle.std.proofs.lemmas.Bool.{cond-true, cond-false}
+use Rattle.s66_isa.specs.{Among}
 use Rattle.s66_isa.proofs.Lists.{cases_le}
-use Rattle.s66_views.specs.Json.{characters}
-use Rattle.s66_views.specs.Labels.{bytes_in}
+use Rattle.s66_views.specs.{characters, bytes_in}
 
 one-byte : (b : ℕ) (more : List ℕ) → b < 128 → bytes_in (b ∷ more) ≡ b ∷ bytes_in more
 one-byte b [] lt = refl

@@ -1,18 +1,11 @@
 -- The texts of points, the first first, one after the other, and of the sums of their stretches.
-use Rattle.std.proofs.Common.{ℕ, ◌+◌, ◌<◌, ◌≡◌, ◌∙◌, List, [], ◌∷◌, ◌++◌, ap, append_assoc, arith, get_or, length, length-take, refl, reverse, sym, take}
-use Rattle.std.specs.Prelude.{nat_lt}
-use Rattle.std.proofs.lemmas.Bool.{lt-ltb}
+use Rattle.std.proofs.Common.{ℕ, ◌+◌, ◌<◌, ◌≡◌, ◌∙◌, List, [], ◌∷◌, ◌++◌, ap, append_assoc, arith, get_or, length, length-take, refl, reverse, sym, take, nat_lt, lt-ltb}
 use Rattle.std.proofs.lemmas.List.{length-reverse}
 use Rattle.serde_json.specs.Written.{comma_if}
-use Rattle.s66_model.specs.Timing.{Point}
-use Rattle.s66_why.specs.declared.lost.Lost.{Lost}
-use Rattle.s66_why.specs.declared.stretch.Stretch.{Stretch}
-use Rattle.s66_why.specs.declared.stretch.Conflict.{Conflict}
-use Rattle.s66_why.specs.declared.stretch.Conflict.TheVariants.{First, Second, Third}
-use Rattle.s66_why.specs.Sums.{sum_of}
-use Rattle.s66_why.specs.Why.{lost, stretches_at}
+use Rattle.s66_model.specs.{Point}
+use Rattle.s66_why.specs.{Lost, Stretch, Conflict, First, Second, Third, sum_of, lost, stretches_at}
 use Rattle.s66_why.proofs.Earlier.{earlier-more}
-use Rattle.s66_views.specs.Pieces.{is_some, lost_of, lost_text, point_text, points_text}
+use Rattle.s66_views.specs.{is_some, lost_of, lost_text, point_text, points_text}
 
 some-length : (s : List Point) → is_some s ≡ nat_lt 0 (length s)
 some-length [] = refl

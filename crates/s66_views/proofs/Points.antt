@@ -1,17 +1,14 @@
 -- What a page has of the instructions of a timed order in a loop: rows, bars, ticks and sums, one round more.
-use Rattle.std.proofs.Common.{ℕ, suc, ◌+◌, ◌-◌, ◌<◌, ◌≡◌, List, [], ◌∷◌, ◌++◌, ap, append_assoc, arith, flat_map, length, take, get_or, reverse, sym, ◌∙◌}
+use Rattle.std.proofs.Common.{ℕ, suc, ◌+◌, ◌-◌, ◌<◌, ◌≡◌, List, [], ◌∷◌, ◌++◌, ap, append_assoc, arith, flat_map, length, take, get_or, reverse, sym, ◌∙◌, append-nil}
 use Rattle.std.proofs.lemmas.Grind.{flat_map-append}
-use Rattle.std.proofs.lemmas.List.{append-nil, length-reverse, take_more}
+use Rattle.std.proofs.lemmas.List.{length-reverse, take_more}
+use Rattle.s66_isa.specs.{weigh, Kind}
 use Rattle.s66_isa.proofs.Lists.{weigh-append}
-use Rattle.s66_isa.specs.Lists.{weigh}
-use Rattle.s66_isa.specs.declared.instr.Kind.{Kind}
-use Rattle.s66_line.specs.Blocks.{Block, bytes_of}
-use Rattle.s66_model.specs.Timing.{Point}
-use Rattle.s66_why.specs.Why.{stretches_at}
+use Rattle.s66_model.specs.{Point}
+use Rattle.s66_line.specs.{Block, bytes_of}
+use Rattle.s66_why.specs.{stretches_at, Work, left_from, taken_from, work}
 use Rattle.s66_why.proofs.Earlier.{earlier-more}
-use Rattle.s66_why.specs.declared.work.Work.{Work}
-use Rattle.s66_views.specs.Page.{instruction_row, instruction_rows, row_head, row_marks, unit_row_of, unit_rows}
-use Rattle.s66_why.specs.Units.{left_from, taken_from, work}
+use Rattle.s66_views.specs.{instruction_row, instruction_rows, row_head, row_marks, unit_row_of, unit_rows}
 
 -- ONE MORE
 

@@ -1,21 +1,16 @@
 -- A page holds the row of each instruction of an order, and a row its times and its bars.
-use Rattle.std.proofs.Common.{ℕ, ◌+◌, ◌-◌, ◌<◌, ◌≡◌, ◌∙◌, List, [], ◌∷◌, ◌++◌, ap, append_assoc, codes, decimal, drop, flat_map, get_or, inl, inr, length, refl, reverse, subst, sym, take}
-use Rattle.std.proofs.lemmas.List.{append-nil, take-append-drop}
-use Rattle.s66_isa.specs.KindNames.{kind_name}
-use Rattle.s66_isa.specs.Lists.{Among}
-use Rattle.s66_isa.specs.Table.{latency_of}
-use Rattle.s66_line.specs.Blocks.{Block, bytes_of}
-use Rattle.s66_model.specs.Timing.{Problem, Point, point_of, points_after, points_of}
+use Rattle.std.proofs.Common.{ℕ, ◌+◌, ◌-◌, ◌<◌, ◌≡◌, ◌∙◌, List, [], ◌∷◌, ◌++◌, ap, append_assoc, codes, decimal, drop, flat_map, get_or, inl, inr, length, refl, reverse, subst, sym, take, append-nil}
+use Rattle.std.proofs.Common.{take-append-drop}
+use Rattle.s66_isa.specs.{kind_name, Among, latency_of}
+use Rattle.s66_model.specs.{Problem, Point, point_of, points_after, points_of}
 use Rattle.s66_model.proofs.PointTimes.{points_after-append}
-use Rattle.s66_time.specs.TimedOrder.{TimedOrder, point_at}
+use Rattle.s66_line.specs.{Block, bytes_of}
+use Rattle.s66_time.specs.TimedOrder.{TimedOrder}
+use Rattle.s66_time.specs.{point_at}
 use Rattle.s66_time.proofs.Positions.{point-at, points-push}
-use Rattle.s66_why.specs.declared.stretch.Stretch.{Stretch}
-use Rattle.s66_why.specs.Chart.{cycles_of}
-use Rattle.s66_why.specs.Why.{conflict_name, stretches_at}
-use Rattle.s66_views.specs.declared.page.row.Shown.TheVariants.{Bar}
-use Rattle.s66_views.specs.Page.{all_kind_rows, all_rows, bar, bar_start, instruction_row, instruction_rows, on_path, order_head, order_text, register_rows, row_head, row_marks, row_words, shown_as, span, stretch_bar, stretch_title, why_below, work_bar, work_title}
-use Rattle.s66_why.specs.Units.{work, works}
-use Rattle.s66_views.specs.Rows.{Holds, place_of_bar, title_of_times}
+use Rattle.s66_why.specs.{Stretch, cycles_of, conflict_name, stretches_at, work, works}
+use Rattle.s66_views.specs.{Bar, all_kind_rows, all_rows, bar, bar_start, instruction_row, instruction_rows, on_path, order_head, order_text, register_rows, row_head, row_marks, row_words, shown_as}
+use Rattle.s66_views.specs.{span, stretch_bar, stretch_title, why_below, work_bar, work_title, Holds, place_of_bar, title_of_times}
 
 -- PARTS
 

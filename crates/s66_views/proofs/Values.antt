@@ -1,21 +1,22 @@
 -- The compact text of a JSON value, as `serde_json` has it, is that of the pieces that are appended, one after the other.
-use Rattle.std.proofs.Common.{ℕ, ◌≡◌, ◌==◌, ◌∙◌, Bool, true, false, List, [], ◌∷◌, ◌++◌, ap, ap₂, append_assoc, codes, decimal, length, refl, sym}
 use Rattle.std.specs.Fmt.{digits}
+use Rattle.std.proofs.Common.{ℕ, ◌≡◌, ◌==◌, ◌∙◌, Bool, true, false, List, [], ◌∷◌, ◌++◌, ap, ap₂, append_assoc, codes, decimal, length, refl, sym}
 use Rattle.json.specs.Print.{escape_byte}
 use Rattle.serde_json.specs.Data.{Data, null, boolean, Items, no_items, item, Members, no_members, member}
 use Rattle.serde_json.specs.Written.{comma_if, compact_text, items_text, members_text}
-use Rattle.s66_isa.specs.declared.profile.Profile.{Profile}
-use Rattle.s66_command.specs.Changes.{changes, name_at}
-use Rattle.s66_command.specs.declared.changes.Change.{Change}
-use Rattle.s66_isa.specs.Table.{Reg, Row, Write, numbers}
-use Rattle.s66_line.specs.Blocks.{Block, instrs_of, line_of, whole_text_of}
-use Rattle.s66_model.specs.Dependence.{needs}
-use Rattle.s66_model.specs.Timing.{Point, ResultAt, latest_result, total_of}
+use Rattle.s66_isa.specs.{Profile, Row, Write, numbers}
+use Rattle.s66_isa.specs.Table.{Reg}
+use Rattle.s66_model.specs.{needs, Point, ResultAt, latest_result, total_of}
+use Rattle.s66_command.specs.{changes, name_at, Change}
+use Rattle.s66_line.specs.{Block, instrs_of, line_of, whole_text_of}
 use Rattle.s66_time.specs.TimedOrder.{TimedOrder}
-use Rattle.s66_why.specs.declared.stretch.Stretch.{Stretch}
-use Rattle.s66_why.specs.Why.{added, path, stretches, stretches_at}
-use Rattle.s66_views.specs.Json.{block_data, change_members, profile_members, fillers_in, found_data, instruction_data, items_of, json_line, list_of, num, order_members, parcels_in, point_data, points, points_items, register_data, result_data, result_register, row_of, wait_data, written_data}
-use Rattle.s66_views.specs.Pieces.{bound_text, changes_listed, profile_text, cause_text, conflict_text, head_text, instruction_text, instructions_text, is_some, label_text, lines_text, list_text, listed, lists_text, lost_of, lost_text, memory_text, name_of_block, name_text, needs_text, numbers_text, operands_text, order_text, path_text, place_text, point_text, points_text, register_text, registers_text, result_text, results_text, size_text, sort_text, source_text, start_text, steps_text, string_text, timed_text, times_text, truth_text, unit_text, wait_start, wait_text, waits_text, work_text, write_text, writes_text}
+use Rattle.s66_why.specs.{Stretch, added, path, stretches, stretches_at}
+use Rattle.s66_views.specs.{block_data, change_members, profile_members, fillers_in, found_data, instruction_data, items_of, json_line, list_of, num, order_members, parcels_in, point_data, points}
+use Rattle.s66_views.specs.{points_items, register_data, result_data, result_register, row_of, wait_data, written_data, bound_text, changes_listed, profile_text, cause_text, conflict_text, head_text}
+use Rattle.s66_views.specs.{instruction_text, instructions_text, is_some, label_text, lines_text, list_text, listed, lists_text, lost_of, lost_text, memory_text, name_of_block, name_text, needs_text}
+use Rattle.s66_views.specs.{numbers_text, operands_text, path_text, place_text, point_text, points_text, register_text, registers_text, result_text, results_text, size_text, sort_text, source_text}
+use Rattle.s66_views.specs.{start_text, steps_text, string_text, timed_text, times_text, truth_text, unit_text, wait_start, wait_text, waits_text, work_text, write_text, writes_text}
+use Rattle.s66_views.specs.Pieces.{order_text}
 
 -- PIECES OF PIECES
 

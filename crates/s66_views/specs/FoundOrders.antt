@@ -1,7 +1,7 @@
 -- To be believed: what is shown of a block beside its source order.
 use Rattle.std.specs.Prelude.{ℕ, ◌≡◌, List, [], ◌∷◌, ⊤}
+use Rattle.s66_line.specs.{Block, instrs_of}
 use Rattle.s66_time.specs.Ordered.{Ordered}
-use Rattle.s66_line.specs.Blocks.{Block, instrs_of}
 
 -- the name by which it is entered, empty if there is none; an order, what every order takes at least, and sentences that say why no
 -- order is faster; none if they aren't shown

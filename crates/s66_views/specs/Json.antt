@@ -5,27 +5,14 @@
 use Rattle.std.specs.Prelude.{ℕ, ◌+◌, ◌/◌, ◌%◌, if◌then◌else◌, ◌==◌, List, [], ◌∷◌, ◌++◌, codes, flat_map, length, map, nat_lt}
 use Rattle.serde_json.specs.Data.{Data, null, boolean, number, string, array, object, unsigned, Items, no_items, item, Members, no_members, member}
 use Rattle.serde_json.specs.Written.{compact_text}
-use Rattle.s66_isa.specs.declared.instr.Instr.{Instr}
-use Rattle.s66_isa.specs.declared.instr.Kind.{Kind}
-use Rattle.s66_isa.specs.declared.instr.Kind.TheVariants.{Boolean, Shift, Add, LongAdd, Multiply, Divide, Increment}
-use Rattle.s66_isa.specs.declared.instr.Memory.{Memory}
+use Rattle.s66_isa.specs.{Instr, Kind, Boolean, Shift, Add, LongAdd, Multiply, Divide, Increment, Memory, Profile, weigh, Row, Write, instr_at, numbers, parcels_of, row}
 use Rattle.s66_isa.specs.declared.instr.Memory.TheVariants as memory
-use Rattle.s66_isa.specs.declared.profile.Profile.{Profile}
-use Rattle.s66_isa.specs.Lists.{weigh}
-use Rattle.s66_isa.specs.Table.{Reg, Row, Write, instr_at, numbers, parcels_of, row}
-use Rattle.s66_line.specs.Blocks.{Block, instrs_of, line_of, whole_text_of}
-use Rattle.s66_command.specs.Changes.{changes, name_at}
-use Rattle.s66_command.specs.declared.changes.Change.{Change}
-use Rattle.s66_model.specs.Dependence.{needs}
-use Rattle.s66_model.specs.Packing.{fillers, len_at}
-use Rattle.s66_model.specs.Timing.{Point, ResultAt, latest_result, points_of, total_of}
+use Rattle.s66_isa.specs.Table.{Reg}
+use Rattle.s66_model.specs.{needs, fillers, len_at, Point, ResultAt, latest_result, points_of, total_of}
+use Rattle.s66_command.specs.{changes, name_at, Change}
+use Rattle.s66_line.specs.{Block, instrs_of, line_of, whole_text_of}
 use Rattle.s66_time.specs.TimedOrder.{TimedOrder}
-use Rattle.s66_why.specs.declared.cause.Cause.{Cause}
-use Rattle.s66_why.specs.declared.cause.Cause.TheVariants.{Writes, Takes, References, Reads, Ends}
-use Rattle.s66_why.specs.declared.stretch.Conflict.{Conflict}
-use Rattle.s66_why.specs.declared.stretch.Conflict.TheVariants.{First, Second, Third}
-use Rattle.s66_why.specs.declared.stretch.Stretch.{Stretch}
-use Rattle.s66_why.specs.Why.{added, bank_name, lost, path, stretches, stretches_at}
+use Rattle.s66_why.specs.{Cause, Writes, Takes, References, Reads, Ends, Conflict, First, Second, Third, Stretch, added, bank_name, lost, path, stretches, stretches_at}
 
 -- NUMBERS, TEXTS AND LISTS
 

@@ -1,8 +1,8 @@
 -- Used by examples alone: small blocks with their lines, under the standard profile.
 use Rattle.std.specs.Prelude.{ℕ, List, [], ◌∷◌, ◌++◌, codes}
-use Rattle.s66_isa.specs.Table.{instr}
-use Rattle.s66_line.specs.Blocks.{Block, instrs_of}
-use Rattle.s66_model.specs.Examples.{standard_problem}
+use Rattle.s66_isa.specs.{instr}
+use Rattle.s66_model.specs.{standard_problem}
+use Rattle.s66_line.specs.{Block, instrs_of}
 use Rattle.s66_time.specs.TimedOrder.{TimedOrder}
 
 -- a block in an order

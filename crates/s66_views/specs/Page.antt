@@ -4,29 +4,14 @@
 -- title, and from there to the list of blocks, with how it looks and what its colours mean.
 use Rattle.std.specs.Prelude.{ℕ, zero, suc, Bool, false, ◌+◌, ◌-◌, ◌*◌, ◌/◌, if◌then◌else◌, ◌==◌, List, [], ◌∷◌, ◌++◌, codes, decimal, flat_map, length, nat_lt, reverse}
 use Rattle.std.specs.List.{range_with_len, list_any}
-use Rattle.s66_isa.specs.Lists.{tally, weigh}
-use Rattle.s66_isa.specs.declared.profile.Profile.{Profile}
-use Rattle.s66_isa.specs.declared.reg.TheConstants.{REGISTER_COUNT}
-use Rattle.s66_isa.specs.Registers.{register_at}
-use Rattle.s66_isa.specs.Table.{Reg, numbers}
-use Rattle.s66_isa.specs.declared.instr.Kind.{Kind}
-use Rattle.s66_isa.specs.declared.instr.Kind.TheVariants.{Boolean, Shift, Add, LongAdd, Multiply, Divide, Increment}
-use Rattle.s66_command.specs.Changes.{changes, changes_text}
-use Rattle.s66_command.specs.declared.changes.Change.{Change}
-use Rattle.s66_line.specs.Blocks.{Block, bytes_of, instrs_of, line_of}
-use Rattle.s66_model.specs.Timing.{Point, points_of}
+use Rattle.s66_isa.specs.{tally, weigh, Profile, REGISTER_COUNT, register_at, numbers, Kind, Boolean, Shift, Add, LongAdd, Multiply, Divide, Increment, kind_name}
+use Rattle.s66_isa.specs.Table.{Reg}
+use Rattle.s66_model.specs.{Point, points_of}
+use Rattle.s66_command.specs.{changes, changes_text, Change}
+use Rattle.s66_line.specs.{Block, bytes_of, instrs_of, line_of}
 use Rattle.s66_time.specs.TimedOrder.{TimedOrder}
-use Rattle.s66_why.specs.declared.cause.Cause.{Cause}
-use Rattle.s66_why.specs.declared.cause.Cause.TheVariants.{Writes, Takes, References, Reads, Ends}
-use Rattle.s66_why.specs.declared.cause.Holder.{Holder}
-use Rattle.s66_why.specs.declared.stretch.Stretch.{Stretch}
-use Rattle.s66_why.specs.declared.reservation.Reservation.{Reservation}
-use Rattle.s66_why.specs.declared.work.Work.{Work}
-use Rattle.s66_why.specs.Chart.{cycles_of}
-use Rattle.s66_why.specs.Reservations.{register_reservations}
-use Rattle.s66_why.specs.Units.{left_from, taken_from, work, works, works_of_kind}
-use Rattle.s66_why.specs.Why.{conflict_name, in_three, path, register_name, stretches_at, why_text}
-use Rattle.s66_isa.specs.KindNames.{kind_name}
+use Rattle.s66_why.specs.{Cause, Writes, Takes, References, Reads, Ends, Holder, Stretch, Reservation, Work, cycles_of, register_reservations, left_from, taken_from, work, works, works_of_kind}
+use Rattle.s66_why.specs.{conflict_name, in_three, path, register_name, stretches_at, why_text}
 use Rattle.s66_views.specs.declared.page.row.Shown.{Shown}
 use Rattle.s66_views.specs.declared.page.row.Shown.TheVariants.{Bar, Words}
 use Rattle.s66_views.specs.declared.page.summary.Summary.{Summary}

@@ -2,21 +2,14 @@
 --
 -- `PAGE_PAIRS` is a constant: what stands between the profile and the list.
 use Rattle.std.specs.Prelude.{ℕ, ◌≡◌, ◌+◌, Bool, true, List, [], ◌∷◌, ◌++◌, Ok, Option, Some, codes, decimal, slice_get}
-use Rattle.s66_isa.specs.declared.profile.Profile.{Profile}
-use Rattle.s66_line.specs.Blocks.{Block, instrs_of}
-use Rattle.s66_source.specs.Frame.{frame_of}
-use Rattle.s66_source.specs.LeftAlone.{Reading}
-use Rattle.s66_source.specs.Source.{source_of}
+use Rattle.s66_isa.specs.{Profile}
+use Rattle.s66_command.specs.{changes}
+use Rattle.s66_line.specs.{Block, instrs_of}
+use Rattle.s66_source.specs.{frame_of, Reading, source_of}
 use Rattle.s66_time.specs.TimedOrder.{TimedOrder}
-use Rattle.s66_command.specs.Changes.{changes}
-use Rattle.s66_compare.specs.Compared.{ending_text, is_accepted, row_line}
-use Rattle.s66_compare.specs.Difference.{first_difference}
-use Rattle.s66_compare.specs.Rows.{AreAligned, counted, has_new, has_old}
+use Rattle.s66_compare.specs.{ending_text, is_accepted, row_line, first_difference, AreAligned, counted, has_new, has_old, Row, Both, NewAlone, OldAlone, BlockVerdict, NotLegal, OtherNew, OtherOld}
+use Rattle.s66_compare.specs.{Reordered, Same}
 use Rattle.s66_compare.specs.declared.difference.Difference.{Difference}
-use Rattle.s66_compare.specs.declared.rows.Row.{Row}
-use Rattle.s66_compare.specs.declared.rows.Row.TheVariants.{Both, NewAlone, OldAlone}
-use Rattle.s66_compare.specs.declared.verdict.BlockVerdict.{BlockVerdict}
-use Rattle.s66_compare.specs.declared.verdict.BlockVerdict.TheVariants.{NotLegal, OtherNew, OtherOld, Reordered, Same}
 use Rattle.s66_views.specs.Escape.{escaped}
 use Rattle.s66_views.specs.Page.{as_written, block_anchor, order_text, profile_line}
 use Rattle.s66_views.specs.declared.page.page.Part.{Part}

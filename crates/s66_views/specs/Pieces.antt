@@ -1,21 +1,13 @@
 -- Used by contracts within the crate alone: the text of a value in pieces, as it is appended.
 use Rattle.std.specs.Prelude.{ℕ, Bool, true, false, List, [], ◌∷◌, ◌++◌, codes, decimal, length}
 use Rattle.serde_json.specs.Written.{comma_if, compact_text}
-use Rattle.s66_isa.specs.declared.instr.Kind.{Kind}
-use Rattle.s66_isa.specs.declared.instr.Memory.{Memory}
-use Rattle.s66_isa.specs.declared.profile.Profile.{Profile}
-use Rattle.s66_isa.specs.Table.{Reg, Row, Write, numbers}
-use Rattle.s66_command.specs.Changes.{changes, name_at}
-use Rattle.s66_command.specs.declared.changes.Change.{Change}
-use Rattle.s66_line.specs.Blocks.{Block, instrs_of, line_of, whole_text_of}
-use Rattle.s66_model.specs.Dependence.{needs}
-use Rattle.s66_model.specs.Timing.{Point, ResultAt, latest_result, total_of}
+use Rattle.s66_isa.specs.{Kind, Memory, Profile, Row, Write, numbers}
+use Rattle.s66_isa.specs.Table.{Reg}
+use Rattle.s66_model.specs.{needs, Point, ResultAt, latest_result, total_of}
+use Rattle.s66_command.specs.{changes, name_at, Change}
+use Rattle.s66_line.specs.{Block, instrs_of, line_of, whole_text_of}
 use Rattle.s66_time.specs.TimedOrder.{TimedOrder}
-use Rattle.s66_why.specs.declared.cause.Cause.{Cause}
-use Rattle.s66_why.specs.declared.stretch.Conflict.{Conflict}
-use Rattle.s66_why.specs.declared.stretch.Conflict.TheVariants.{First, Second, Third}
-use Rattle.s66_why.specs.declared.stretch.Stretch.{Stretch}
-use Rattle.s66_why.specs.Why.{added, lost, path, stretches, stretches_at}
+use Rattle.s66_why.specs.{Cause, Conflict, First, Second, Third, Stretch, added, lost, path, stretches, stretches_at}
 use Rattle.s66_views.specs.Json.{conflict_data, fillers_in, label_data, memory_data, name_data, parcels_in, points, register_data, row_of, sort_data, text_data, unit_data}
 
 -- SHORT VALUES

@@ -1,6 +1,6 @@
 -- To be believed: what a row of a page shows of an instruction: its times, in the words of `time --trace`, and where its bars are drawn.
 use Rattle.std.specs.Prelude.{ℕ, ◌≡◌, List, ◌++◌, codes, decimal}
-use Rattle.s66_model.specs.Timing.{Point, latest_result}
+use Rattle.s66_model.specs.{Point, latest_result}
 
 -- a text holds another one
 abbrev pub Holds : (text part : List ℕ) → Type 0

@@ -1,7 +1,7 @@
 //! The members of a block: number, label, lines, size, profile, instructions and the source order.
 
 ghost use Rattle.std.specs.Prelude.{◌≡◌, ◌++◌, OnOk};
-ghost use Rattle.s66_views.specs.Pieces.{head_text, lines_text, name_of_block, size_text, start_text};
+ghost use Rattle.s66_views.specs.{head_text, lines_text, name_of_block, size_text, start_text};
 
 use crate::json_lines::instruction::push_instructions;
 use crate::json_lines::label::push_label;

@@ -4,9 +4,9 @@
 ghost use Rattle.std.specs.Prelude.{[], ◌∷◌, ◌≡◌, ◌++◌, codes};
 ghost use Rattle.serde_json.specs.Data.{no_members, null, object};
 ghost use Rattle.serde_json.specs.Written.{compact_text};
-ghost use Rattle.s66_isa.specs.Table.{standard};
-ghost use Rattle.s66_views.specs.JsonExamples.{in_order, labelled, loads_and_two};
-ghost use Rattle.s66_views.specs.Json.{found_data, instruction_data, json_line, profile_members, written_data};
+ghost use Rattle.s66_isa.specs.{standard};
+ghost use Rattle.s66_views.specs.JsonExamples.{in_order, labelled};
+ghost use Rattle.s66_views.specs.{loads_and_two, found_data, instruction_data, json_line, profile_members, written_data};
 
 /// A block of one store: its label has a quote and a byte that is no ASCII, its text is in upper case, and it writes a register alone.
 #[tactic(auto, unfolding(s66_isa::specs::Table::row, s66_model::specs::Timing::issue_of, s66_model::specs::Timing::start_of, s66_model::specs::Timing::point, s66_why::specs::Why::digits, json::specs::Print::escape_byte))]

@@ -1,10 +1,10 @@
 //! The object of an instruction: its text, what the table has of it, and on which it depends.
 
 ghost use Rattle.std.specs.Prelude.{◌≡◌, ◌≤◌, ◌++◌, OnOk, length};
-ghost use Rattle.s66_line.specs.Blocks.{instrs_of};
-ghost use Rattle.s66_model.specs.Dependence.{needs};
-ghost use Rattle.s66_isa.specs.Members.{numbers_in};
-ghost use Rattle.s66_views.specs.Pieces.{instruction_text, instructions_text, needs_text, operands_text, source_text, work_text};
+ghost use Rattle.s66_isa.specs.{numbers_in};
+ghost use Rattle.s66_model.specs.{needs};
+ghost use Rattle.s66_line.specs.{instrs_of};
+ghost use Rattle.s66_views.specs.{instruction_text, instructions_text, needs_text, operands_text, source_text, work_text};
 
 use crate::json_lines::list::{push_numbers, push_registers, push_writes};
 use crate::json_lines::string::push_string;

@@ -1,8 +1,7 @@
 //! The label of a block as a member, if it has one.
 
 ghost use Rattle.std.specs.Prelude.{◌≡◌, ◌++◌, OnOk};
-ghost use Rattle.s66_views.specs.Json.{without_blank};
-ghost use Rattle.s66_views.specs.Pieces.{label_text};
+ghost use Rattle.s66_views.specs.{without_blank, label_text};
 
 use crate::json_lines::string::push_string;
 use crate::json_lines::text::push_text;

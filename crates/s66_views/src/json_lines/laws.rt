@@ -3,11 +3,10 @@
 ghost use Rattle.std.specs.Prelude.{ℕ, List, ◌≡◌, ◌<◌, ◌^◌, Some, codes, option_and_then};
 ghost use Rattle.serde_json.specs.Data.{null};
 ghost use Rattle.serde_json.specs.Find.{get};
-ghost use Rattle.s66_isa.specs.Lists.{Among};
-ghost use Rattle.s66_line.specs.Blocks.{Block as BlockOf};
+ghost use Rattle.s66_isa.specs.{Among};
+ghost use Rattle.s66_line.specs.{Block as BlockOf};
 ghost use Rattle.s66_time.specs.TimedOrder.{TimedOrder};
-ghost use Rattle.s66_views.specs.Json.{block_data, characters, found_data, list_of, num};
-ghost use Rattle.s66_views.specs.Labels.{bytes_in};
+ghost use Rattle.s66_views.specs.{block_data, characters, found_data, list_of, num, bytes_in};
 
 /// Who reads a line finds in it the numbers of the order that it is of, and nothing found where nothing was.
 pub fn order_law()

@@ -2,7 +2,7 @@
 
 ghost use Rattle.std.specs.Prelude.{◌≡◌, ◌++◌, OnOk};
 ghost use Rattle.serde_json.specs.Data.{null};
-ghost use Rattle.s66_views.specs.Json.{found_data, json_line};
+ghost use Rattle.s66_views.specs.{found_data, json_line};
 
 use crate::json_lines::block::push_start;
 use crate::json_lines::order::{push_bound, push_timed};

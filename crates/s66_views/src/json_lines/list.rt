@@ -1,8 +1,8 @@
 //! Lists in JSON: of numbers, of steps, of registers, and of the registers that an instruction writes.
 
 ghost use Rattle.std.specs.Prelude.{◌≡◌, ◌++◌, OnOk, map};
-ghost use Rattle.s66_why.specs.declared.path.Step.{Step as StepOf};
-ghost use Rattle.s66_views.specs.Pieces.{numbers_text, registers_text, writes_text};
+ghost use Rattle.s66_why.specs.{Step as StepOf};
+ghost use Rattle.s66_views.specs.{numbers_text, registers_text, writes_text};
 
 use crate::json_lines::text::{push_comma, push_text};
 use crate::json_lines::words::push_register;

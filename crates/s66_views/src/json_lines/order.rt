@@ -1,12 +1,10 @@
 //! The members of a timed order: time, instructions, path, steps and sums; with a found order, bound and splits.
 
 ghost use Rattle.std.specs.Prelude.{◌≡◌, ◌≤◌, ◌++◌, OnOk, IfOk, length, map, reverse};
-ghost use Rattle.s66_isa.specs.declared.limits.TheConstants.{BLOCK_LIMIT};
-ghost use Rattle.s66_why.specs.Sums.{sum_of};
-ghost use Rattle.s66_why.specs.Why.{lost, stretches};
-ghost use Rattle.s66_why.specs.declared.path.Step.{Step as StepOf};
-ghost use Rattle.s66_why.specs.declared.stretch.Conflict.{Conflict as ConflictOf};
-ghost use Rattle.s66_views.specs.Pieces.{bound_text, lost_text, order_text, path_text, points_text, steps_text, timed_text};
+ghost use Rattle.s66_isa.specs.{BLOCK_LIMIT};
+ghost use Rattle.s66_why.specs.{sum_of, lost, stretches, Step as StepOf, Conflict as ConflictOf};
+ghost use Rattle.s66_views.specs.{bound_text, lost_text, path_text, points_text, steps_text, timed_text};
+ghost use Rattle.s66_views.specs.Pieces.{order_text};
 
 use crate::json_lines::list::{push_added, push_numbers};
 use crate::json_lines::point::push_point;

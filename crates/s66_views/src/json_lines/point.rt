@@ -1,8 +1,8 @@
 //! The object of an instruction in a timed order: its place, its times, its results, and what it waits for.
 
 ghost use Rattle.std.specs.Prelude.{◌≡◌, ◌++◌, OnOk};
-ghost use Rattle.s66_model.specs.Timing.{latest_result};
-ghost use Rattle.s66_views.specs.Pieces.{lists_text, place_text, point_text, result_text, results_text, times_text};
+ghost use Rattle.s66_model.specs.{latest_result};
+ghost use Rattle.s66_views.specs.{lists_text, place_text, point_text, result_text, results_text, times_text};
 
 use crate::json_lines::text::{push_comma, push_text};
 use crate::json_lines::wait::push_waits;

@@ -1,8 +1,8 @@
 //! The numbers of a profile that aren't the standard profile's, as a member.
 
 ghost use Rattle.std.specs.Prelude.{◌≡◌, ◌++◌, false, OnOk};
-ghost use Rattle.s66_command.specs.Changes.{changes};
-ghost use Rattle.s66_views.specs.Pieces.{changes_listed, profile_text};
+ghost use Rattle.s66_command.specs.{changes};
+ghost use Rattle.s66_views.specs.{changes_listed, profile_text};
 
 use crate::json_lines::string::push_string;
 use crate::json_lines::text::{push_comma, push_text};

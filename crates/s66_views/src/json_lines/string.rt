@@ -3,8 +3,7 @@
 ghost use Rattle.std.specs.Prelude.{◌≡◌, ◌<◌, ◌++◌, OnOk};
 ghost use Rattle.std.specs.Char.{digit_char};
 ghost use Rattle.json.specs.Print.{escape};
-ghost use Rattle.s66_views.specs.Json.{character};
-ghost use Rattle.s66_views.specs.Pieces.{string_text};
+ghost use Rattle.s66_views.specs.{character, string_text};
 
 use std::alloc::AllocError;
 

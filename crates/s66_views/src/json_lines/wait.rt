@@ -1,7 +1,7 @@
 //! The object of a stretch in which an instruction waits.
 
 ghost use Rattle.std.specs.Prelude.{◌≡◌, ◌++◌, OnOk, codes};
-ghost use Rattle.s66_views.specs.Pieces.{cause_text, register_text, unit_text, wait_start, wait_text, waits_text};
+ghost use Rattle.s66_views.specs.{cause_text, register_text, unit_text, wait_start, wait_text, waits_text};
 
 use crate::json_lines::text::{push_comma, push_text};
 use crate::json_lines::words::{conflict, push_register, unit};

@@ -2,8 +2,8 @@
 
 ghost use Rattle.std.specs.Prelude.{◌≡◌, ◌++◌, ◌∷◌, OnOk};
 ghost use Rattle.json.specs.Print.{escape};
-ghost use Rattle.s66_views.specs.Pieces.{conflict_text, memory_text, register_text, truth_text, unit_text};
-ghost use Rattle.s66_why.specs.Why.{bank_name};
+ghost use Rattle.s66_why.specs.{bank_name};
+ghost use Rattle.s66_views.specs.{conflict_text, memory_text, register_text, truth_text, unit_text};
 
 use crate::json_lines::text::push_text;
 use s66_isa::{Bank, Kind, Memory, Reg};

@@ -1,9 +1,9 @@
 //! The bars of a row: what an instruction does and what it waits for, with the words that a bar shows.
 
 ghost use Rattle.std.specs.Prelude.{◌≡◌, ◌-◌, ◌++◌, OnOk, codes};
-ghost use Rattle.s66_views.specs.Page.{bar, bar_start, numbered_bar, span, cause_words, words, stretch_title, stretch_bar, stretch_words, work_title, work_bar};
-ghost use Rattle.s66_why.specs.Why.{register_name};
-ghost use Rattle.s66_isa.specs.KindNames.{kind_name};
+ghost use Rattle.s66_isa.specs.{kind_name};
+ghost use Rattle.s66_why.specs.{register_name};
+ghost use Rattle.s66_views.specs.{bar, bar_start, numbered_bar, span, cause_words, words, stretch_title, stretch_bar, stretch_words, work_title, work_bar};
 
 use crate::page::text::{push_number, push_text};
 use s66_device::push_field;

@@ -1,8 +1,10 @@
 //! A block on the page: its row in the list of blocks, and its section with heading, orders and reasons.
 
 ghost use Rattle.std.specs.Prelude.{◌≡◌, ◌<◌, ◌^◌, ◌++◌, OnOk};
-ghost use Rattle.s66_line.specs.Blocks.{instrs_of};
-ghost use Rattle.s66_views.specs.Page.{best_cell, best_text, block_anchor, block_head, block_place, block_text, block_times, block_title, block_verdict, bound_cell, bound_text, cell, entry_cell, index_link, index_row, listing, reasons_below, summary, time_cells, total_row};
+ghost use Rattle.s66_line.specs.{instrs_of};
+ghost use Rattle.s66_views.specs.{best_cell, best_text, block_anchor, block_head, block_place, block_text, block_times, block_title, block_verdict, bound_cell, cell, entry_cell, index_link, index_row};
+ghost use Rattle.s66_views.specs.{listing, reasons_below, summary, time_cells, total_row};
+ghost use Rattle.s66_views.specs.Page.{bound_text};
 
 use crate::page::escape::{push_escaped, push_escaped_lines};
 use crate::page::order::push_order;

@@ -1,7 +1,7 @@
 //! A text of a source as text of the page: no byte of it can begin or end an element.
 
 ghost use Rattle.std.specs.Prelude.{◌≡◌, ◌++◌, OnOk, codes, decimal, if◌then◌else◌, nat_le};
-ghost use Rattle.s66_views.specs.Escape.{is_printed, escaped_byte, escaped, escaped_lines, escaped_or_newline};
+ghost use Rattle.s66_views.specs.{is_printed, escaped_byte, escaped, escaped_lines, escaped_or_newline};
 
 use s66_device::push_field;
 use std::alloc::AllocError;

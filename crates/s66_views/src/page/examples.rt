@@ -2,11 +2,10 @@
 //! from outside, and the functions do nothing.
 
 ghost use Rattle.std.specs.Prelude.{[], ◌∷◌, ◌≡◌, ◌++◌, codes};
-ghost use Rattle.s66_model.specs.Examples.{third_order, three_multiplies};
-ghost use Rattle.s66_model.specs.Timing.{points_of};
-ghost use Rattle.s66_views.specs.PageExamples.{found_for, in_order, labelled, one_boolean, third_order_lines};
-ghost use Rattle.s66_views.specs.Page.{all_kind_rows, block_text, index_row, instruction_rows, page_title, profile_line, total_of_all};
-ghost use Rattle.s66_why.specs.Units.{works};
+ghost use Rattle.s66_model.specs.{third_order, three_multiplies, points_of};
+ghost use Rattle.s66_why.specs.{works};
+ghost use Rattle.s66_views.specs.{found_for, labelled, one_boolean, third_order_lines, all_kind_rows, block_text, index_row, instruction_rows, page_title, profile_line, total_of_all};
+ghost use Rattle.s66_views.specs.PageExamples.{in_order};
 
 /// A block of one instruction, whose unit is taken for four minor cycles and works for three, and whose register for three; its name and its remark are escaped.
 #[tactic(auto, unfolding(s66_isa::specs::Table::row, s66_model::specs::Timing::issue_of, s66_model::specs::Timing::start_of, s66_model::specs::Timing::point, crate::specs::Escape::digits, crate::specs::Page::span, crate::specs::Page::bar_start, crate::specs::Page::stretch_title, crate::specs::Page::stretch_bar, crate::specs::Page::stretch_words, crate::specs::Page::work_title, crate::specs::Page::work_bar, crate::specs::Page::row_head, crate::specs::Page::row_words, crate::specs::Page::row_marks, crate::specs::Page::numbered_bar, crate::specs::Page::number_at, crate::specs::Page::unit_bars, crate::specs::Page::unit_shares, crate::specs::Page::unit_head, crate::specs::Page::unit_row, crate::specs::Page::kind_rows, crate::specs::Page::all_kind_rows, crate::specs::Page::register_bar, crate::specs::Page::register_head, crate::specs::Page::register_row, crate::specs::Page::heading, crate::specs::Page::heading_end, crate::specs::Page::table_start, crate::specs::Page::order_head, crate::specs::Page::why_below, crate::specs::Page::order_text, crate::specs::Page::bound_text, crate::specs::Page::block_place, crate::specs::Page::block_times, crate::specs::Page::block_anchor, crate::specs::Page::block_title, crate::specs::Page::block_verdict, crate::specs::Page::block_head, crate::specs::Page::listing, crate::specs::Page::block_text))]

@@ -2,18 +2,14 @@
 //! instruction.
 
 ghost use Rattle.std.specs.Prelude.{ℕ, List, ◌≡◌, ◌<◌, ◌-◌, ◌^◌, false, true, codes, length, take};
-ghost use Rattle.s66_isa.specs.Lists.{Among, every};
-ghost use Rattle.s66_isa.specs.Table.{latency_of};
-ghost use Rattle.s66_line.specs.Blocks.{Block as BlockOf};
-ghost use Rattle.s66_model.specs.Timing.{Point as PointOf, points_of};
-ghost use Rattle.s66_time.specs.TimedOrder.{TimedOrder, point_at};
-ghost use Rattle.s66_views.specs.Escape.{escaped_byte, escaped, escaped_lines, is_harmless, is_harmless_or_newline, is_reference_or};
-ghost use Rattle.s66_views.specs.Page.{instruction_row, on_path, order_text};
-ghost use Rattle.s66_views.specs.Rows.{Holds, place_of_bar, title_of_times};
-ghost use Rattle.s66_views.specs.Still.{is_still};
-ghost use Rattle.s66_views.specs.declared.page.start.TheConstants.{PAGE_START, PAGE_HEAD, PAGE_LIST, PAGE_PAIRS};
-ghost use Rattle.s66_why.specs.Why.{stretches_at};
-ghost use Rattle.s66_why.specs.declared.stretch.Stretch.{Stretch as StretchOf};
+ghost use Rattle.s66_isa.specs.{Among, every, latency_of};
+ghost use Rattle.s66_model.specs.{Point as PointOf, points_of};
+ghost use Rattle.s66_line.specs.{Block as BlockOf};
+ghost use Rattle.s66_time.specs.TimedOrder.{TimedOrder};
+ghost use Rattle.s66_time.specs.{point_at};
+ghost use Rattle.s66_why.specs.{stretches_at, Stretch as StretchOf};
+ghost use Rattle.s66_views.specs.{escaped_byte, escaped, escaped_lines, is_harmless, is_harmless_or_newline, is_reference_or, instruction_row, on_path, order_text, Holds, place_of_bar, title_of_times};
+ghost use Rattle.s66_views.specs.{is_still, PAGE_START, PAGE_HEAD, PAGE_LIST, PAGE_PAIRS};
 
 /// A source can't break out of its text. Whatever its bytes are, an escaped text has printed bytes of ASCII and tabs alone, and no
 /// bracket or quote, so that no element or attribute begins or ends in it; of several lines, newlines too. Each byte is itself, or a reference to one character.

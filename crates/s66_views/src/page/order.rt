@@ -1,10 +1,10 @@
 //! An order on the page: its heading, its ruler, its rows, and below them what `why` says.
 
 ghost use Rattle.std.specs.Prelude.{◌≡◌, ◌+◌, ◌*◌, ◌/◌, ◌<◌, ◌^◌, ◌++◌, OnOk};
-ghost use Rattle.s66_line.specs.Blocks.{instrs_of};
-ghost use Rattle.s66_model.specs.Timing.{points_of};
-ghost use Rattle.s66_views.specs.Page.{all_rows, on_path, heading, heading_end, order_head, order_text, table_start, why_below, tick, ticks};
-ghost use Rattle.s66_why.specs.Units.{works};
+ghost use Rattle.s66_model.specs.{points_of};
+ghost use Rattle.s66_line.specs.{instrs_of};
+ghost use Rattle.s66_why.specs.{works};
+ghost use Rattle.s66_views.specs.{all_rows, on_path, heading, heading_end, order_head, order_text, table_start, why_below, tick, ticks};
 
 use crate::page::register::push_register_rows;
 use crate::page::row::push_rows;

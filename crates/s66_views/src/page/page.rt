@@ -1,11 +1,9 @@
 //! The page of one source (`push_page`): its head, the list of blocks with a total, and each block.
 
 ghost use Rattle.std.specs.Prelude.{◌≡◌, ◌<◌, ◌^◌, ◌++◌, OnOk, length};
-ghost use Rattle.s66_isa.specs.Lists.{tally, weigh};
-ghost use Rattle.s66_line.specs.Blocks.{instrs_of};
-ghost use Rattle.s66_views.specs.FoundOrders.{AreOf};
-ghost use Rattle.s66_views.specs.Page.{as_found, as_written, entries, entry, index, is_best, page_head, page_text, page_title, profile_line, summaries, summary};
-ghost use Rattle.s66_views.specs.declared.page.summary.Summary.{Summary as SummaryOf};
+ghost use Rattle.s66_isa.specs.{tally, weigh};
+ghost use Rattle.s66_line.specs.{instrs_of};
+ghost use Rattle.s66_views.specs.{AreOf, as_found, as_written, entries, entry, index, is_best, page_head, page_text, page_title, profile_line, summaries, summary, Summary as SummaryOf};
 
 use crate::page::block::{push_block, push_index_row, push_total_row, summary_of};
 use crate::page::escape::push_escaped;

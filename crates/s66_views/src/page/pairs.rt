@@ -1,12 +1,10 @@
 //! The page that shows two sources, their blocks in pairs.
 
 ghost use Rattle.std.specs.Prelude.{◌≡◌, ◌≤◌, ◌<◌, ◌+◌, ◌*◌, ◌^◌, ◌++◌, IfOk, OnOk, codes, length, slice_get};
-ghost use Rattle.s66_source.specs.declared.limits.TheConstants.{SOURCE_LINES_LIMIT};
-ghost use Rattle.s66_line.specs.Blocks.{instrs_of};
-ghost use Rattle.s66_compare.specs.Rows.{AreOfBlocks, IsRowOf, counted};
-ghost use Rattle.s66_compare.specs.Verdict.{judged};
-ghost use Rattle.s66_views.specs.Page.{as_written, order_text};
-ghost use Rattle.s66_views.specs.Pairs.{IsPairsPage, all_pairs, both_orders, in_new, in_old, in_order, pair_part, pairs_head, pairs_list, pairs_text, row_orders, row_said};
+ghost use Rattle.s66_line.specs.{instrs_of};
+ghost use Rattle.s66_source.specs.{SOURCE_LINES_LIMIT};
+ghost use Rattle.s66_compare.specs.{AreOfBlocks, IsRowOf, counted, judged};
+ghost use Rattle.s66_views.specs.{as_written, order_text, IsPairsPage, all_pairs, both_orders, in_new, in_old, in_order, pair_part, pairs_head, pairs_list, pairs_text, row_orders, row_said};
 
 use crate::page::block::push_block_anchor;
 use crate::page::escape::push_escaped;
@@ -44,7 +42,7 @@ fn counted(is: bool, place: usize) -> usize
 
 impl Place {
     ghost use Rattle.std.specs.Prelude.{◌≡◌, ◌<◌, ◌^◌};
-    ghost use Rattle.s66_views.specs.Pairs.{behind};
+    ghost use Rattle.s66_views.specs.{behind};
 
     /// The place behind a row.
     fn behind(self, row: &Row) -> Place

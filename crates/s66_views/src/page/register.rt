@@ -1,8 +1,8 @@
 //! The rows of registers: which instruction holds each, from when until when.
 
 ghost use Rattle.std.specs.Prelude.{◌≡◌, ◌≤◌, ◌++◌, OnOk, flat_map, length};
-ghost use Rattle.s66_isa.specs.declared.limits.TheConstants.{BLOCK_LIMIT};
-ghost use Rattle.s66_views.specs.Page.{register_bar, register_head, register_row, register_row_of, register_rows};
+ghost use Rattle.s66_isa.specs.{BLOCK_LIMIT};
+ghost use Rattle.s66_views.specs.{register_bar, register_head, register_row, register_row_of, register_rows};
 
 use crate::page::bar::push_numbered_bar;
 use crate::page::text::{push_number_at, push_text};

@@ -1,12 +1,11 @@
 //! The row of an instruction: its number, its text, an arrow if it moved, and its bars.
 
 ghost use Rattle.std.specs.Prelude.{◌≡◌, ◌+◌, ◌<◌, ◌++◌, OnOk, flat_map, length, map, reverse};
-ghost use Rattle.s66_line.specs.Blocks.{bytes_of, instrs_of};
-ghost use Rattle.s66_model.specs.Timing.{points_of};
-ghost use Rattle.s66_time.specs.TimedOrder.{point_at};
-ghost use Rattle.s66_why.specs.Why.{stretches_at};
-ghost use Rattle.s66_views.specs.Page.{arrow, row_start, row_head, row_marks, row_words, shown_as, instruction_rows};
-ghost use Rattle.s66_why.specs.Units.{work};
+ghost use Rattle.s66_model.specs.{points_of};
+ghost use Rattle.s66_line.specs.{bytes_of, instrs_of};
+ghost use Rattle.s66_time.specs.{point_at};
+ghost use Rattle.s66_why.specs.{stretches_at, work};
+ghost use Rattle.s66_views.specs.{arrow, row_start, row_head, row_marks, row_words, shown_as, instruction_rows};
 
 use crate::page::bar::{push_stretch_bar, push_stretch_words, push_work_bar};
 use crate::page::escape::push_escaped;

@@ -19,7 +19,7 @@ pub(crate) struct Summary {
 
 impl Summary {
     ghost use Rattle.std.specs.Prelude.{◌≡◌};
-    ghost use Rattle.s66_views.specs.Page.{is_best};
+    ghost use Rattle.s66_views.specs.{is_best};
 
     /// Whether the order is proved best.
     pub(crate) fn is_best(&self) -> bool

@@ -1,7 +1,7 @@
 //! Numbers between pieces of markup, as all files here append them.
 
 ghost use Rattle.std.specs.Prelude.{◌≡◌, ◌++◌, OnOk, decimal};
-ghost use Rattle.s66_views.specs.Page.{number_at};
+ghost use Rattle.s66_views.specs.{number_at};
 
 use s66_device::push_field;
 use std::alloc::AllocError;

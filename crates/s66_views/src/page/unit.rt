@@ -1,8 +1,8 @@
 //! The rows of units: what each copy of a kind does, and for how much of the time.
 
 ghost use Rattle.std.specs.Prelude.{◌≡◌, ◌*◌, ◌<◌, ◌≤◌, ◌^◌, ◌++◌, OnOk, flat_map, length};
-ghost use Rattle.s66_isa.specs.declared.limits.TheConstants.{BLOCK_LIMIT};
-ghost use Rattle.s66_views.specs.Page.{unit_bars, share, taken, worked, unit_head, unit_shares, unit_row, unit_row_of, unit_rows, kind_rows, all_kind_rows};
+ghost use Rattle.s66_isa.specs.{BLOCK_LIMIT};
+ghost use Rattle.s66_views.specs.{unit_bars, share, taken, worked, unit_head, unit_shares, unit_row, unit_row_of, unit_rows, kind_rows, all_kind_rows};
 
 use crate::page::bar::push_numbered_bar;
 use crate::page::text::{push_number_at, push_text, push_two};

@@ -1,7 +1,7 @@
 use Rattle.std.proofs.Common.{◌++◌, ◌∙◌, ap, ap₂, codes, decimal}
 use Rattle.std.proofs.lemmas.Result.{IfOk-equal}
-use Rattle.s66_line.specs.Blocks.{line_of}
-use Rattle.s66_views.specs.Pieces.{lines_text}
+use Rattle.s66_line.specs.{line_of}
+use Rattle.s66_views.specs.{lines_text}
 use Rattle.s66_views.proofs.Appended.{of-four}
 use Rattle.s66_views.proofs.json_lines.block.push_lines.Goals as goal
 

@@ -1,6 +1,6 @@
 use Rattle.std.proofs.Common.{◌++◌, ◌∙◌, ap, codes, decimal}
 use Rattle.std.proofs.lemmas.Result.{IfOk-equal}
-use Rattle.s66_views.specs.Pieces.{label_text, name_of_block}
+use Rattle.s66_views.specs.{label_text, name_of_block}
 use Rattle.s66_views.proofs.Appended.{of-six}
 use Rattle.s66_views.proofs.json_lines.block.push_name.Goals as goal
 

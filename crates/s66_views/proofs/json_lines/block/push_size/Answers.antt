@@ -1,6 +1,6 @@
 use Rattle.std.proofs.Common.{◌++◌, ◌∙◌, ap, ap₂, codes, decimal}
 use Rattle.std.proofs.lemmas.Result.{IfOk-equal}
-use Rattle.s66_views.specs.Pieces.{size_text}
+use Rattle.s66_views.specs.{size_text}
 use Rattle.s66_views.proofs.Appended.{of-four}
 use Rattle.s66_views.proofs.json_lines.block.push_size.Goals as goal
 

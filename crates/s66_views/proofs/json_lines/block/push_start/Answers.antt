@@ -1,6 +1,6 @@
 use Rattle.std.proofs.Common.{◌++◌, ◌∙◌, ap, codes}
 use Rattle.std.proofs.lemmas.Result.{IfOk-equal}
-use Rattle.s66_views.specs.Pieces.{head_text, instructions_text, start_text, timed_text}
+use Rattle.s66_views.specs.{head_text, instructions_text, start_text, timed_text}
 use Rattle.s66_views.proofs.Appended.{of-five}
 use Rattle.s66_views.proofs.json_lines.block.push_start.Goals as goal
 

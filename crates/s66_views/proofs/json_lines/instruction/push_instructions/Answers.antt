@@ -1,16 +1,14 @@
-use Rattle.std.proofs.Common.{ℕ, List, ◌≡◌, ◌+◌, ◌-◌, ◌++◌, [], ◌∙◌, true, false, sym, ap, arith, length, get_or, append_assoc, codes}
-use Rattle.std.specs.Prelude.{nat_lt}
-use Rattle.std.proofs.lemmas.Bool.{lt-ltb}
+use Rattle.std.proofs.Common.{ℕ, List, ◌≡◌, ◌+◌, ◌-◌, ◌++◌, [], ◌∙◌, true, false, sym, ap, arith, length, get_or, append_assoc, codes, nat_lt, lt-ltb}
 use Rattle.std.proofs.lemmas.Result.{IfOk-equal}
 use Rattle.serde_json.specs.Written.{comma_if}
-use Rattle.s66_isa.specs.Lists.{rising}
-use Rattle.s66_line.specs.Blocks.{instrs_of}
+use Rattle.s66_isa.specs.{rising}
+use Rattle.s66_isa.proofs.Lists.{rising-next}
+use Rattle.s66_line.specs.{instrs_of}
 use Rattle.s66_time.proofs.Readiness.{needs-at}
-use Rattle.s66_views.specs.Pieces.{instruction_text, instructions_text, listed}
+use Rattle.s66_time.proofs.Opened.{count-needs}
+use Rattle.s66_views.specs.{instruction_text, instructions_text, listed}
 use Rattle.s66_views.proofs.Appended.{of-three}
 use Rattle.s66_views.proofs.json_lines.instruction.push_instructions.Goals as goal
-use Rattle.s66_isa.proofs.Lists.{rising-next}
-use Rattle.s66_time.proofs.Opened.{count-needs}
 
 pub loop-position-init : goal.loop-position-init
 loop-position-init c =

@@ -1,9 +1,7 @@
-use Rattle.std.proofs.Common.{◌≡◌, ◌+◌, ◌-◌, ◌++◌, codes, false, length}
-use Rattle.std.specs.Prelude.{nat_lt}
-use Rattle.s66_isa.specs.Lists.{rising}
-use Rattle.s66_isa.specs.Table.{numbers}
-use Rattle.s66_line.specs.Blocks.{instrs_of}
-use Rattle.s66_views.specs.Pieces.{instruction_text, listed}
+use Rattle.std.proofs.Common.{◌≡◌, ◌+◌, ◌-◌, ◌++◌, codes, false, length, nat_lt}
+use Rattle.s66_isa.specs.{rising, numbers}
+use Rattle.s66_line.specs.{instrs_of}
+use Rattle.s66_views.specs.{instruction_text, listed}
 use Rattle.s66_views.proofs.json_lines.instruction.push_instructions.Given as goal
 
 abbrev pub invariant-loop-position : goal.invariant-loop-position

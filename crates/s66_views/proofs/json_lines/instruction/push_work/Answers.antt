@@ -1,7 +1,7 @@
 use Rattle.std.proofs.Common.{◌++◌, ◌∙◌, ap, codes, decimal}
 use Rattle.std.proofs.lemmas.Result.{IfOk-equal}
-use Rattle.s66_isa.specs.Table.{Row}
-use Rattle.s66_views.specs.Pieces.{unit_text, work_text}
+use Rattle.s66_isa.specs.{Row}
+use Rattle.s66_views.specs.{unit_text, work_text}
 use Rattle.s66_views.proofs.Appended.{of-six}
 use Rattle.s66_views.proofs.json_lines.instruction.push_work.Goals as goal
 

@@ -1,7 +1,7 @@
 use Rattle.std.proofs.Common.{◌==◌, ◌∙◌, ◌++◌, ap, append_assoc, codes, sym}
 use Rattle.std.proofs.lemmas.Result.{IfOk-equal}
-use Rattle.s66_model.specs.Timing.{total_of}
-use Rattle.s66_views.specs.Pieces.{bound_text, start_text, timed_text}
+use Rattle.s66_model.specs.{total_of}
+use Rattle.s66_views.specs.{bound_text, start_text, timed_text}
 use Rattle.s66_views.proofs.Values.{found-line}
 use Rattle.s66_views.proofs.json_lines.line.push_found_line.Goals as goal
 

@@ -1,6 +1,6 @@
 use Rattle.std.proofs.Common.{◌∙◌, ◌++◌, ap, append_assoc, codes, sym}
 use Rattle.std.proofs.lemmas.Result.{IfOk-equal}
-use Rattle.s66_views.specs.Pieces.{start_text}
+use Rattle.s66_views.specs.{start_text}
 use Rattle.s66_views.proofs.Values.{written-line}
 use Rattle.s66_views.proofs.json_lines.line.push_written_line.Goals as goal
 

@@ -1,7 +1,6 @@
-use Rattle.std.proofs.Common.{◌≡◌, ◌++◌, drop, map}
-use Rattle.std.specs.Prelude.{nat_lt, decimal}
-use Rattle.s66_why.specs.declared.path.Step.{Step}
-use Rattle.s66_views.specs.Pieces.{listed, list_text}
+use Rattle.std.proofs.Common.{◌≡◌, ◌++◌, drop, map, nat_lt, decimal}
+use Rattle.s66_why.specs.{Step}
+use Rattle.s66_views.specs.{listed, list_text}
 use Rattle.s66_views.proofs.json_lines.list.push_added.Given as goal
 
 abbrev pub invariant-loop-i : goal.invariant-loop-i

@@ -1,6 +1,5 @@
-use Rattle.std.proofs.Common.{◌≡◌, ◌++◌, drop}
-use Rattle.std.specs.Prelude.{nat_lt}
-use Rattle.s66_views.specs.Pieces.{listed, list_text, write_text}
+use Rattle.std.proofs.Common.{◌≡◌, ◌++◌, drop, nat_lt}
+use Rattle.s66_views.specs.{listed, list_text, write_text}
 use Rattle.s66_views.proofs.json_lines.list.push_writes.Given as goal
 
 abbrev pub invariant-loop-i : goal.invariant-loop-i

@@ -1,6 +1,6 @@
 use Rattle.std.proofs.Common.{◌++◌, ◌∙◌, ap, codes, decimal}
 use Rattle.std.proofs.lemmas.Result.{IfOk-equal}
-use Rattle.s66_views.specs.Pieces.{lost_text}
+use Rattle.s66_views.specs.{lost_text}
 use Rattle.s66_views.proofs.Appended.{of-seven}
 use Rattle.s66_views.proofs.json_lines.order.push_lost.Goals as goal
 

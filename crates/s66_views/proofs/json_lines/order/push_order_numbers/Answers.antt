@@ -1,6 +1,7 @@
 use Rattle.std.proofs.Common.{◌++◌, ◌∙◌, ap, codes, decimal}
 use Rattle.std.proofs.lemmas.Result.{IfOk-equal}
-use Rattle.s66_views.specs.Pieces.{numbers_text, order_text}
+use Rattle.s66_views.specs.{numbers_text}
+use Rattle.s66_views.specs.Pieces.{order_text}
 use Rattle.s66_views.proofs.Appended.{of-seven}
 use Rattle.s66_views.proofs.json_lines.order.push_order_numbers.Goals as goal
 

@@ -1,10 +1,8 @@
 use Rattle.std.proofs.Common.{◌≡◌, ◌+◌, ◌*◌, ◌^◌, ◌++◌, ◌∙◌, List, ap, arith, reverse, sym, take}
-use Rattle.s66_model.specs.Timing.{Point}
-use Rattle.s66_why.specs.declared.stretch.Stretch.{Stretch}
-use Rattle.s66_why.specs.Why.{stretches, stretches_at, lost}
+use Rattle.s66_model.specs.{Point}
+use Rattle.s66_why.specs.{Stretch, stretches, stretches_at, lost, sum_of}
 use Rattle.s66_why.proofs.Earlier.{earlier-more}
 use Rattle.s66_why.proofs.Lines.{lost-more}
-use Rattle.s66_why.specs.Sums.{sum_of}
 use Rattle.s66_views.proofs.PointTexts.{points-more}
 use Rattle.s66_views.proofs.json_lines.order.push_points.Goals as goal
 

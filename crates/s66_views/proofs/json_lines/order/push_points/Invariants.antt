@@ -1,8 +1,6 @@
 use Rattle.std.proofs.Common.{◌≡◌, ◌*◌, ◌^◌, ◌++◌, take, reverse}
-use Rattle.s66_why.specs.declared.stretch.Conflict.{Conflict}
-use Rattle.s66_why.specs.Why.{lost, stretches}
-use Rattle.s66_views.specs.Pieces.{points_text}
-use Rattle.s66_why.specs.Sums.{sum_of, AreAtMost}
+use Rattle.s66_why.specs.{Conflict, lost, stretches, sum_of, AreAtMost}
+use Rattle.s66_views.specs.{points_text}
 use Rattle.s66_views.proofs.json_lines.order.push_points.Given as goal
 
 abbrev pub invariant-loop-position : goal.invariant-loop-position

@@ -1,12 +1,11 @@
 use Rattle.std.proofs.Common.{◌≡◌, ◌++◌, ◌∙◌, List, ap, ap₂, map, reverse}
 use Rattle.std.proofs.lemmas.List.{reverse-reverse}
 use Rattle.std.proofs.lemmas.Result.{IfOk-equal}
+use Rattle.s66_model.specs.{Point, points_of, total_of}
 use Rattle.s66_time.specs.Ordered.{Ordered}
-use Rattle.s66_model.specs.Timing.{Point, points_of, total_of}
-use Rattle.s66_why.specs.declared.path.Step.{Step}
-use Rattle.s66_why.specs.Why.{added, lost, path, steps, stretches}
-use Rattle.s66_views.specs.Json.{fillers_in}
-use Rattle.s66_views.specs.Pieces.{lost_of, lost_text, order_text, path_text, points_text, steps_text, timed_text}
+use Rattle.s66_why.specs.{Step, added, lost, path, steps, stretches}
+use Rattle.s66_views.specs.{fillers_in, lost_of, lost_text, path_text, points_text, steps_text, timed_text}
+use Rattle.s66_views.specs.Pieces.{order_text}
 use Rattle.s66_views.proofs.Appended.{of-five}
 use Rattle.s66_views.proofs.PointTexts.{lost-texts}
 use Rattle.s66_views.proofs.json_lines.order.push_timed.Goals as goal

@@ -1,7 +1,7 @@
 use Rattle.std.proofs.Common.{◌++◌, ◌∙◌, ap, codes}
 use Rattle.std.proofs.lemmas.Result.{IfOk-equal}
-use Rattle.s66_model.specs.Timing.{Point}
-use Rattle.s66_views.specs.Pieces.{lists_text, results_text, waits_text}
+use Rattle.s66_model.specs.{Point}
+use Rattle.s66_views.specs.{lists_text, results_text, waits_text}
 use Rattle.s66_views.proofs.Appended.{of-five}
 use Rattle.s66_views.proofs.json_lines.point.push_lists.Goals as goal
 

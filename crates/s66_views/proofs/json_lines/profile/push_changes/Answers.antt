@@ -1,7 +1,7 @@
 use Rattle.std.proofs.Common.{◌≡◌, ◌≤◌, ◌++◌, ◌∙◌, List, [], ◌∷◌, ap, append_assoc, arith, codes, false, length, refl}
 use Rattle.std.proofs.lemmas.Result.{IfOk-equal}
-use Rattle.s66_command.specs.declared.changes.Change.{Change}
-use Rattle.s66_views.specs.Pieces.{changes_listed, profile_text}
+use Rattle.s66_command.specs.{Change}
+use Rattle.s66_views.specs.{changes_listed, profile_text}
 use Rattle.s66_views.proofs.json_lines.profile.push_changes.Goals as goal
 
 some-listed : (cs : List Change) → 1 ≤ length cs → codes ",\"profile\":{" ++ changes_listed false cs ≡ profile_text cs

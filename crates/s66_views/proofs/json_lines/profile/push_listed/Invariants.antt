@@ -1,6 +1,5 @@
-use Rattle.std.proofs.Common.{◌≡◌, ◌++◌, drop, false}
-use Rattle.std.specs.Prelude.{nat_lt}
-use Rattle.s66_views.specs.Pieces.{changes_listed}
+use Rattle.std.proofs.Common.{◌≡◌, ◌++◌, drop, false, nat_lt}
+use Rattle.s66_views.specs.{changes_listed}
 use Rattle.s66_views.proofs.json_lines.profile.push_listed.Given as goal
 
 abbrev pub invariant-loop-i : goal.invariant-loop-i

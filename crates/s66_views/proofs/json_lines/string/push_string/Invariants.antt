@@ -1,6 +1,6 @@
 use Rattle.std.proofs.Common.{◌≡◌, ◌++◌, ◌∷◌, take}
 use Rattle.json.specs.Print.{escape}
-use Rattle.s66_views.specs.Json.{characters}
+use Rattle.s66_views.specs.{characters}
 use Rattle.s66_views.proofs.json_lines.string.push_string.Given as goal
 
 abbrev pub invariant-loop-byte : goal.invariant-loop-byte

@@ -1,6 +1,6 @@
 use Rattle.std.proofs.Common.{◌++◌, ◌∙◌, ap, append_assoc, codes}
 use Rattle.std.proofs.lemmas.Result.{IfOk-equal}
-use Rattle.s66_views.specs.Pieces.{register_text}
+use Rattle.s66_views.specs.{register_text}
 use Rattle.s66_views.proofs.json_lines.wait.push_for_register.Goals as goal
 
 pub returns : goal.returns

@@ -1,6 +1,5 @@
 use Rattle.std.proofs.Common.{◌++◌, ◌∙◌, ap, codes}
-use Rattle.s66_views.specs.declared.page.summary.Summary.{Summary}
-use Rattle.s66_views.specs.Page.{best_text, block_head, block_text, order_text, reasons_below, summary}
+use Rattle.s66_views.specs.{Summary, best_text, block_head, block_text, order_text, reasons_below, summary}
 use Rattle.s66_views.proofs.Pieces.{more, last}
 use Rattle.s66_views.proofs.page.block.push_block.Goals as goal
 

@@ -1,6 +1,5 @@
 use Rattle.std.proofs.Common.{◌++◌, codes}
-use Rattle.s66_views.specs.Escape.{escaped_lines}
-use Rattle.s66_views.specs.Page.{listing}
+use Rattle.s66_views.specs.{escaped_lines, listing}
 use Rattle.s66_views.proofs.Pieces.{more, last}
 use Rattle.s66_views.proofs.page.block.push_listing.Goals as goal
 

@@ -1,5 +1,5 @@
 use Rattle.std.proofs.Common.{◌++◌, codes}
-use Rattle.s66_views.specs.Page.{best_cell, cell, time_cells, total_row}
+use Rattle.s66_views.specs.{best_cell, cell, time_cells, total_row}
 use Rattle.s66_views.proofs.Pieces.{more, last}
 use Rattle.s66_views.proofs.page.block.push_total_row.Goals as goal
 

@@ -1,5 +1,5 @@
 use Rattle.std.proofs.Common.{◌≡◌, ◌++◌, take}
-use Rattle.s66_views.specs.Escape.{escaped}
+use Rattle.s66_views.specs.{escaped}
 use Rattle.s66_views.proofs.page.escape.push_escaped.Given as goal
 
 abbrev pub invariant-loop-byte : goal.invariant-loop-byte

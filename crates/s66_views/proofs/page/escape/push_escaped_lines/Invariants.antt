@@ -1,5 +1,5 @@
 use Rattle.std.proofs.Common.{◌≡◌, ◌++◌, take}
-use Rattle.s66_views.specs.Escape.{escaped_lines}
+use Rattle.s66_views.specs.{escaped_lines}
 use Rattle.s66_views.proofs.page.escape.push_escaped_lines.Given as goal
 
 abbrev pub invariant-loop-byte : goal.invariant-loop-byte

@@ -1,12 +1,9 @@
 use Rattle.std.proofs.Common.{◌≡◌, ◌++◌, ◌∙◌, List, ap, ap₂, append_assoc, map, reverse}
 use Rattle.std.proofs.lemmas.List.{reverse-reverse}
 use Rattle.std.proofs.lemmas.Result.{IfOk-equal}
-use Rattle.s66_model.specs.Timing.{Point, points_of}
-use Rattle.s66_why.specs.declared.path.Step.{Step}
-use Rattle.s66_why.specs.Chart.{cycles_of}
-use Rattle.s66_why.specs.Why.{steps}
-use Rattle.s66_views.specs.Page.{all_kind_rows, instruction_rows, on_path, register_rows}
-use Rattle.s66_why.specs.Units.{works}
+use Rattle.s66_model.specs.{Point, points_of}
+use Rattle.s66_why.specs.{Step, cycles_of, steps, works}
+use Rattle.s66_views.specs.{all_kind_rows, instruction_rows, on_path, register_rows}
 use Rattle.s66_views.proofs.page.order.push_all_rows.Goals as goal
 
 pub returns : goal.returns

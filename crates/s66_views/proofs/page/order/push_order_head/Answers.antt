@@ -1,5 +1,5 @@
 use Rattle.std.proofs.Common.{◌++◌, codes}
-use Rattle.s66_views.specs.Page.{heading, order_head, table_start, ticks}
+use Rattle.s66_views.specs.{heading, order_head, table_start, ticks}
 use Rattle.s66_views.proofs.Pieces.{more, last}
 use Rattle.s66_views.proofs.page.order.push_order_head.Goals as goal
 

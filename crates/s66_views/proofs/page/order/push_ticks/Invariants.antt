@@ -1,6 +1,6 @@
-use Rattle.std.proofs.Common.{◌≡◌, ◌-◌, ◌++◌, flat_map}
 use Rattle.std.specs.List.{range_with_len}
-use Rattle.s66_views.specs.Page.{tick}
+use Rattle.std.proofs.Common.{◌≡◌, ◌-◌, ◌++◌, flat_map}
+use Rattle.s66_views.specs.{tick}
 use Rattle.s66_views.proofs.page.order.push_ticks.Given as goal
 
 abbrev pub invariant-loop-ten : goal.invariant-loop-ten

@@ -1,6 +1,6 @@
 use Rattle.std.proofs.Common.{◌++◌, codes, false}
-use Rattle.s66_why.specs.Why.{why_text}
-use Rattle.s66_views.specs.Page.{why_below}
+use Rattle.s66_why.specs.{why_text}
+use Rattle.s66_views.specs.{why_below}
 use Rattle.s66_views.proofs.Pieces.{more, last}
 use Rattle.s66_views.proofs.page.order.push_why_below.Goals as goal
 

@@ -1,6 +1,5 @@
 use Rattle.std.proofs.Common.{◌≡◌, ◌+◌, ◌++◌, length}
-use Rattle.s66_views.specs.FoundOrders.{AreOf}
-use Rattle.s66_views.specs.Page.{entries, entry}
+use Rattle.s66_views.specs.{AreOf, entries, entry}
 use Rattle.s66_views.proofs.page.page.push_entries.Given as goal
 
 abbrev pub invariant-loop-blocks : goal.invariant-loop-blocks

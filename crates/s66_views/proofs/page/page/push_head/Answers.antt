@@ -1,8 +1,6 @@
 use Rattle.std.proofs.Common.{List, ◌≡◌, ◌++◌, ◌∙◌, ap}
-use Rattle.s66_command.specs.declared.changes.Change.{Change}
-use Rattle.s66_command.specs.Changes.{changes}
-use Rattle.s66_views.specs.declared.page.start.TheConstants.{PAGE_START, PAGE_HEAD, PAGE_LIST}
-use Rattle.s66_views.specs.Page.{page_title, profile_line}
+use Rattle.s66_command.specs.{Change, changes}
+use Rattle.s66_views.specs.{PAGE_START, PAGE_HEAD, PAGE_LIST, page_title, profile_line}
 use Rattle.s66_views.proofs.Pieces.{more, last}
 use Rattle.s66_views.proofs.page.page.push_head.Goals as goal
 

@@ -1,7 +1,6 @@
 use Rattle.std.proofs.Common.{ℕ, List, ◌≡◌, ◌++◌, ◌∙◌, ap, codes}
-use Rattle.s66_isa.specs.declared.profile.Profile.{Profile}
-use Rattle.s66_views.specs.declared.page.page.Part.TheVariants.{Row}
-use Rattle.s66_views.specs.Page.{entries, entry, summaries, total_of_all, total_row}
+use Rattle.s66_isa.specs.{Profile}
+use Rattle.s66_views.specs.{Row, entries, entry, summaries, total_of_all, total_row}
 use Rattle.s66_views.proofs.Pieces.{more, last}
 use Rattle.s66_views.proofs.Totals.{total-is}
 use Rattle.s66_views.proofs.page.page.push_index.Goals as goal

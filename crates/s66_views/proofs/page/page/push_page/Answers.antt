@@ -1,7 +1,6 @@
-use Rattle.s66_views.specs.declared.page.page.Part.TheVariants.{Orders}
 use Rattle.std.proofs.Common.{OnOk, ◌≡◌, ◌++◌, ◌∙◌, ap, subst}
-use Rattle.s66_isa.specs.declared.profile.Profile.{Profile}
-use Rattle.s66_views.specs.Page.{entries, entry, index, page_head}
+use Rattle.s66_isa.specs.{Profile}
+use Rattle.s66_views.specs.{Orders, entries, entry, index, page_head}
 use Rattle.s66_views.proofs.Pieces.{more, last}
 use Rattle.s66_views.proofs.page.page.push_page.Goals as goal
 

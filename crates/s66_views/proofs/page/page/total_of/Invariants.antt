@@ -1,8 +1,6 @@
 use Rattle.std.proofs.Common.{◌≡◌, ◌≤◌, ◌+◌, ◌*◌, ◌^◌, length}
-use Rattle.s66_isa.specs.Lists.{tally, weigh}
-use Rattle.s66_views.specs.FoundOrders.{AreOf}
-use Rattle.s66_views.specs.Page.{is_best, summaries}
-use Rattle.s66_views.specs.declared.page.summary.Summary.{Summary}
+use Rattle.s66_isa.specs.{tally, weigh}
+use Rattle.s66_views.specs.{AreOf, is_best, summaries, Summary}
 use Rattle.s66_views.proofs.page.page.total_of.Given as goal
 
 abbrev pub invariant-loop-blocks : goal.invariant-loop-blocks

@@ -1,11 +1,8 @@
 use Rattle.std.proofs.Common.{◌≡◌, ◌≤◌, ◌*◌, ◌∙◌, List, length, ap₂, subst, sym}
-use Rattle.s66_source.specs.Frame.{frame_of}
-use Rattle.s66_source.specs.declared.limits.TheConstants.{SOURCE_LINES_LIMIT}
-use Rattle.s66_compare.specs.Compared.{is_accepted}
-use Rattle.s66_compare.specs.Difference.{first_difference}
-use Rattle.s66_compare.specs.declared.rows.Row.{Row}
+use Rattle.s66_source.specs.{frame_of, SOURCE_LINES_LIMIT}
+use Rattle.s66_compare.specs.{is_accepted, first_difference, Row}
 use Rattle.s66_compare.proofs.Accepted.{few-rows}
-use Rattle.s66_views.specs.Pairs.{pairs_text}
+use Rattle.s66_views.specs.{pairs_text}
 use Rattle.s66_views.proofs.page.pairs.pairs_page.Goals as goal
 
 pub pairs_text-requires-clause-few : goal.pairs_text-requires-clause-few

@@ -1,7 +1,6 @@
 use Rattle.std.proofs.Common.{◌≡◌, ◌++◌, ◌∙◌, ap, ap₂}
-use Rattle.s66_isa.specs.declared.profile.Profile.{Profile}
-use Rattle.s66_views.specs.declared.page.page.Part.TheVariants.{Orders}
-use Rattle.s66_views.specs.Pairs.{all_pairs, pairs_head, pairs_list}
+use Rattle.s66_isa.specs.{Profile}
+use Rattle.s66_views.specs.{Orders, all_pairs, pairs_head, pairs_list}
 use Rattle.s66_views.proofs.page.pairs.pairs_text.Goals as goal
 
 pub returns : goal.returns

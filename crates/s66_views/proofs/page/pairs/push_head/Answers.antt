@@ -1,8 +1,6 @@
 use Rattle.std.proofs.Common.{List, ◌≡◌, ◌++◌, ◌∙◌, ap, codes}
-use Rattle.s66_command.specs.declared.changes.Change.{Change}
-use Rattle.s66_command.specs.Changes.{changes}
-use Rattle.s66_views.specs.declared.page.start.TheConstants.{PAGE_START, PAGE_HEAD, PAGE_PAIRS}
-use Rattle.s66_views.specs.Page.{profile_line}
+use Rattle.s66_command.specs.{Change, changes}
+use Rattle.s66_views.specs.{PAGE_START, PAGE_HEAD, PAGE_PAIRS, profile_line}
 use Rattle.s66_views.proofs.Pieces.{more, last}
 use Rattle.s66_views.proofs.page.pairs.push_head.Goals as goal
 

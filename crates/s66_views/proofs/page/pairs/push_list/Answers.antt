@@ -1,7 +1,6 @@
 use Rattle.std.proofs.Common.{◌++◌, codes}
-use Rattle.s66_compare.specs.Compared.{ending_text}
-use Rattle.s66_views.specs.declared.page.page.Part.TheVariants.{Row}
-use Rattle.s66_views.specs.Pairs.{all_pairs}
+use Rattle.s66_compare.specs.{ending_text}
+use Rattle.s66_views.specs.{Row, all_pairs}
 use Rattle.s66_views.proofs.Pieces.{more, last}
 use Rattle.s66_views.proofs.page.pairs.push_list.Goals as goal
 

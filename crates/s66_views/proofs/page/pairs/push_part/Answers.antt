@@ -1,7 +1,6 @@
 use Rattle.std.proofs.Common.{◌+◌, ◌++◌, ◌∙◌, ap, append_assoc, codes, decimal, sym}
 use Rattle.std.proofs.lemmas.Result.{IfOk-equal}
-use Rattle.s66_views.specs.Page.{block_anchor}
-use Rattle.s66_views.specs.Pairs.{row_said}
+use Rattle.s66_views.specs.{block_anchor, row_said}
 use Rattle.s66_views.proofs.Pieces.{more, last}
 use Rattle.s66_views.proofs.page.pairs.push_part.Goals as goal
 

@@ -1,6 +1,6 @@
 use Rattle.std.proofs.Common.{◌≡◌, ◌≤◌, ◌++◌, drop}
-use Rattle.s66_compare.specs.Rows.{AreOfBlocks}
-use Rattle.s66_views.specs.Pairs.{all_pairs, pair_part, pair_parts}
+use Rattle.s66_compare.specs.{AreOfBlocks}
+use Rattle.s66_views.specs.{all_pairs, pair_part, pair_parts}
 use Rattle.s66_views.proofs.page.pairs.push_parts.Given as goal
 
 abbrev pub invariant-loop-row : goal.invariant-loop-row

@@ -1,5 +1,5 @@
 use Rattle.std.proofs.Common.{◌≡◌, ◌++◌, drop, flat_map}
-use Rattle.s66_views.specs.Page.{register_bar}
+use Rattle.s66_views.specs.{register_bar}
 use Rattle.s66_views.proofs.page.register.push_register_bars.Given as goal
 
 abbrev pub invariant-loop-reservation : goal.invariant-loop-reservation

@@ -1,6 +1,6 @@
 use Rattle.std.proofs.Common.{◌++◌, codes}
-use Rattle.s66_why.specs.Why.{register_name}
-use Rattle.s66_views.specs.Page.{register_head}
+use Rattle.s66_why.specs.{register_name}
+use Rattle.s66_views.specs.{register_head}
 use Rattle.s66_views.proofs.Pieces.{last, more}
 use Rattle.s66_views.proofs.page.register.push_register_head.Goals as goal
 

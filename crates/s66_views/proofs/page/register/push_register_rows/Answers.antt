@@ -1,11 +1,10 @@
 use Rattle.std.proofs.Common.{ℕ, ◌∙◌, ◌++◌, ap}
-use Rattle.s66_isa.specs.declared.reg.TheConstants.{REGISTER_COUNT}
-use Rattle.s66_isa.specs.Registers.{register_at}
+use Rattle.s66_isa.specs.{REGISTER_COUNT, register_at}
 use Rattle.s66_isa.specs.Table.{Reg}
-use Rattle.s66_why.specs.Reservations.{register_reservations}
-use Rattle.s66_views.specs.Page.{register_row_of}
-use Rattle.s66_views.proofs.page.register.push_register_rows.Goals as goal
+use Rattle.s66_why.specs.{register_reservations}
 use Rattle.s66_why.proofs.Appended.{range-more}
+use Rattle.s66_views.specs.{register_row_of}
+use Rattle.s66_views.proofs.page.register.push_register_rows.Goals as goal
 
 pub loop-index-preserved : goal.loop-index-preserved
 loop-index-preserved c =

@@ -1,9 +1,8 @@
-use Rattle.std.proofs.Common.{ℕ, ◌≡◌, ◌-◌, ◌++◌, flat_map}
 use Rattle.std.specs.List.{range_with_len}
-use Rattle.s66_isa.specs.declared.reg.TheConstants.{REGISTER_COUNT}
-use Rattle.s66_isa.specs.Registers.{register_at}
-use Rattle.s66_why.specs.Reservations.{register_reservations}
-use Rattle.s66_views.specs.Page.{register_row_of, register_rows}
+use Rattle.std.proofs.Common.{ℕ, ◌≡◌, ◌-◌, ◌++◌, flat_map}
+use Rattle.s66_isa.specs.{REGISTER_COUNT, register_at}
+use Rattle.s66_why.specs.{register_reservations}
+use Rattle.s66_views.specs.{register_row_of, register_rows}
 use Rattle.s66_views.proofs.page.register.push_register_rows.Given as goal
 
 abbrev pub invariant-loop-index : goal.invariant-loop-index

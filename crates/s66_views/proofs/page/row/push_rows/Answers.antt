@@ -1,14 +1,13 @@
-use Rattle.std.proofs.Common.{ℕ, ◌≡◌, ◌<◌, ◌++◌, ◌∙◌, List, ap, arith, get_or, length, length-take, map, refl, reverse, sym, take}
-use Rattle.std.proofs.lemmas.List.{get_or_default, get_or-map, length-map, reverse-reverse, take_all}
+use Rattle.std.proofs.Common.{ℕ, ◌≡◌, ◌<◌, ◌++◌, ◌∙◌, List, ap, arith, get_or, length, length-take, map, refl, reverse, sym, take, take_all}
+use Rattle.std.proofs.lemmas.List.{get_or_default, get_or-map, length-map, reverse-reverse}
+use Rattle.s66_isa.specs.{Boolean}
+use Rattle.s66_model.specs.{Point, points_of}
+use Rattle.s66_line.specs.{bytes_of}
 use Rattle.s66_time.specs.Ordered.{Ordered}
-use Rattle.s66_isa.specs.declared.instr.Kind.TheVariants.{Boolean}
-use Rattle.s66_line.specs.Blocks.{bytes_of}
-use Rattle.s66_model.specs.Timing.{Point, points_of}
-use Rattle.s66_time.specs.TimedOrder.{point_at, no_point}
-use Rattle.s66_why.specs.declared.work.Work.{Work}
-use Rattle.s66_views.specs.Page.{instruction_rows}
-use Rattle.s66_why.specs.Units.{work}
+use Rattle.s66_time.specs.{point_at, no_point}
+use Rattle.s66_why.specs.{Work, work}
 use Rattle.s66_why.proofs.PointCount.{points_length}
+use Rattle.s66_views.specs.{instruction_rows}
 use Rattle.s66_views.proofs.Points.{rows-more}
 use Rattle.s66_views.proofs.page.row.push_rows.Goals as goal
 

@@ -1,5 +1,5 @@
 use Rattle.std.proofs.Common.{◌≡◌, ◌++◌, reverse, take}
-use Rattle.s66_views.specs.Page.{instruction_rows}
+use Rattle.s66_views.specs.{instruction_rows}
 use Rattle.s66_views.proofs.page.row.push_rows.Given as goal
 
 abbrev pub invariant-loop-position : goal.invariant-loop-position

@@ -1,5 +1,5 @@
 use Rattle.std.proofs.Common.{◌≡◌, ◌++◌, drop, flat_map}
-use Rattle.s66_views.specs.Page.{shown_as}
+use Rattle.s66_views.specs.{shown_as}
 use Rattle.s66_views.proofs.page.row.push_stretches.Given as goal
 
 abbrev pub invariant-loop-stretch : goal.invariant-loop-stretch

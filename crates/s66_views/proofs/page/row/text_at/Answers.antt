@@ -1,6 +1,6 @@
 use Rattle.std.proofs.Common.{ℕ, List, ap, get_or, sym, ◌∙◌}
+use Rattle.s66_line.specs.{bytes_of}
 use Rattle.s66_time.specs.Ordered.{Ordered}
-use Rattle.s66_line.specs.Blocks.{bytes_of}
 use Rattle.s66_time.proofs.Positions.{number-at}
 use Rattle.s66_views.proofs.page.row.text_at.Goals as goal
 

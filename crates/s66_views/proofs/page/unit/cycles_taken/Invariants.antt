@@ -1,5 +1,5 @@
 use Rattle.std.proofs.Common.{◌≡◌, ◌≤◌, ◌*◌, ◌^◌, take}
-use Rattle.s66_views.specs.Page.{taken}
+use Rattle.s66_views.specs.{taken}
 use Rattle.s66_views.proofs.page.unit.cycles_taken.Given as goal
 
 abbrev pub invariant-loop-work : goal.invariant-loop-work

@@ -1,6 +1,6 @@
 use Rattle.std.proofs.Common.{arith}
-use Rattle.s66_isa.specs.declared.instr.Kind.TheVariants.{Boolean}
-use Rattle.s66_why.specs.declared.work.Work.{Work}
+use Rattle.s66_isa.specs.{Boolean}
+use Rattle.s66_why.specs.{Work}
 use Rattle.s66_views.proofs.Points.{weigh-more}
 use Rattle.s66_views.proofs.page.unit.cycles_worked.Goals as goal
 

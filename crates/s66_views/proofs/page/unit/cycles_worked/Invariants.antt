@@ -1,5 +1,5 @@
 use Rattle.std.proofs.Common.{◌≡◌, ◌≤◌, ◌*◌, ◌^◌, take}
-use Rattle.s66_views.specs.Page.{worked}
+use Rattle.s66_views.specs.{worked}
 use Rattle.s66_views.proofs.page.unit.cycles_worked.Given as goal
 
 abbrev pub invariant-loop-work : goal.invariant-loop-work

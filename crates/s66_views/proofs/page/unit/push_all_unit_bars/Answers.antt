@@ -1,5 +1,5 @@
-use Rattle.s66_isa.specs.declared.instr.Kind.TheVariants.{Boolean}
-use Rattle.s66_views.specs.Page.{unit_bars}
+use Rattle.s66_isa.specs.{Boolean}
+use Rattle.s66_views.specs.{unit_bars}
 use Rattle.s66_views.proofs.Points.{texts-more}
 use Rattle.s66_views.proofs.page.unit.push_all_unit_bars.Goals as goal
 

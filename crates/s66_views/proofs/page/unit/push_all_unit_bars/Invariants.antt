@@ -1,5 +1,5 @@
 use Rattle.std.proofs.Common.{◌≡◌, ◌++◌, flat_map, take}
-use Rattle.s66_views.specs.Page.{unit_bars}
+use Rattle.s66_views.specs.{unit_bars}
 use Rattle.s66_views.proofs.page.unit.push_all_unit_bars.Given as goal
 
 abbrev pub invariant-loop-work : goal.invariant-loop-work

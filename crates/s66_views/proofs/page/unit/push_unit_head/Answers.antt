@@ -1,5 +1,5 @@
 use Rattle.std.proofs.Common.{◌++◌, codes}
-use Rattle.s66_views.specs.Page.{unit_head, unit_shares}
+use Rattle.s66_views.specs.{unit_head, unit_shares}
 use Rattle.s66_views.proofs.Pieces.{more, last}
 use Rattle.s66_views.proofs.page.unit.push_unit_head.Goals as goal
 

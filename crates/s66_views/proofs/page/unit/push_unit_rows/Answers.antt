@@ -1,5 +1,5 @@
 use Rattle.std.proofs.Common.{◌∙◌, ap}
-use Rattle.s66_why.specs.Units.{left_from, taken_from}
+use Rattle.s66_why.specs.{left_from, taken_from}
 use Rattle.s66_views.proofs.Points.{unit-more}
 use Rattle.s66_views.proofs.page.unit.push_unit_rows.Goals as goal
 

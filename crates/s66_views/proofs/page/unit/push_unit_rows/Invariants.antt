@@ -1,5 +1,5 @@
 use Rattle.std.proofs.Common.{◌≡◌, ◌-◌, ◌++◌}
-use Rattle.s66_views.specs.Page.{unit_rows}
+use Rattle.s66_views.specs.{unit_rows}
 use Rattle.s66_views.proofs.page.unit.push_unit_rows.Given as goal
 
 abbrev pub invariant-loop-unit : goal.invariant-loop-unit
