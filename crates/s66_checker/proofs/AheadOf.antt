@@ -1,20 +1,12 @@
 -- Two beginnings by the tests of `specs/Dominating.antt`: whether they are of one set, and whether one dominates the other.
-use Rattle.std.proofs.Common.{ℕ, ◌≤◌, ◌≡◌, ◌↔◌, ◌==◌, ◌&&◌, Bool, IsTrue, true, false, true≢false, List, [], ◌∷◌, ◌++◌, length, refl, sym, ap, ◌∙◌, arith, inl, inr, leb, Decides}
-use Rattle.std.proofs.lemmas.Bool.{and_left, and_right, or_cases, eqb-true}
+use Rattle.std.proofs.Common.{ℕ, ◌≤◌, ◌≡◌, ◌↔◌, ◌==◌, ◌&&◌, Bool, IsTrue, true, false, true≢false, List, [], ◌∷◌, ◌++◌, length, refl, sym, ap, ◌∙◌, arith, inl, inr, leb, Decides, eqb-true}
+use Rattle.std.proofs.lemmas.Bool.{and_left, and_right, or_cases}
 use Rattle.std.proofs.lemmas.Bool.Decides.{Decides-like, Decides-and, same_from_decides}
-use Rattle.s66_isa.specs.declared.instr.Instr.{Instr}
-use Rattle.s66_isa.specs.Lists.{every, has}
+use Rattle.s66_isa.specs.{Instr, every, has, BLOCK_LIMIT, numbers_in, Set}
 use Rattle.s66_isa.proofs.Lists.{every-each, each-every, has-among, among-has}
-use Rattle.s66_isa.specs.declared.limits.TheConstants.{BLOCK_LIMIT}
-use Rattle.s66_model.specs.declared.rule.Rule.{Rule}
-use Rattle.s66_model.specs.declared.rule.Rule.TheVariants.{NoneNamed, WrittenEarlier, ClampedStanding}
-use Rattle.s66_model.specs.Timing.{Problem, points_of, total_of}
-use Rattle.s66_model.specs.LegalOrder.{GoesOn, IsBeginning}
-use Rattle.s66_model.specs.Dominance.{Clamp, no_clamp, IsSameSet}
+use Rattle.s66_model.specs.{Rule, NoneNamed, WrittenEarlier, ClampedStanding, Problem, points_of, total_of, GoesOn, IsBeginning, Clamp, no_clamp, IsSameSet}
 use Rattle.s66_model.proofs.LegalOrders.{ready-parts}
-use Rattle.s66_isa.specs.Members.{numbers_in}
-use Rattle.s66_isa.specs.declared.set.Set.{Set}
-use Rattle.s66_checker.specs.Dominating.{is_no_later, is_same_set, is_beginning, is_ahead, dominates_by}
+use Rattle.s66_checker.specs.{is_no_later, is_same_set, is_beginning, is_ahead, dominates_by}
 use Rattle.s66_checker.proofs.GoingTo.{goes_on-Decides}
 
 -- ONE SET

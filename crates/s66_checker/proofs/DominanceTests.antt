@@ -1,25 +1,15 @@
 -- The tests of dominance say yes exactly when there is dominance.
-use Rattle.std.proofs.Common.{ℕ, zero, suc, ◌≤◌, ◌<◌, ◌≡◌, ◌==◌, max, List, [], ◌∷◌, Option, None, Some, map, get_or, refl, arith, inl, inr, leb, Decides}
-use Rattle.std.proofs.lemmas.Bool.{eqb-true, eq-eqb}
+use Rattle.std.proofs.Common.{ℕ, zero, suc, ◌≤◌, ◌<◌, ◌≡◌, ◌==◌, max, List, [], ◌∷◌, Option, None, Some, map, get_or, refl, arith, inl, inr, leb, Decides, eqb-true, eq-eqb}
 use Rattle.std.proofs.lemmas.Bool.Decides.{Decides-like, Decides-and}
-use Rattle.s66_isa.specs.declared.instr.Instr.{Instr}
-use Rattle.s66_isa.specs.declared.instr.Kind.{Kind}
-use Rattle.s66_isa.specs.declared.reg.Reg.{Reg}
-use Rattle.s66_isa.specs.Table.{copies_of, idle_instr}
+use Rattle.s66_isa.specs.{Instr, Kind, Reg, copies_of, idle_instr}
 use Rattle.s66_isa.proofs.Lists.{cases_le}
-use Rattle.s66_line.specs.InstructionText.{operation_in, operand_in, instr_in_text}
-use Rattle.s66_line.specs.Operand.{instr_of}
-use Rattle.s66_line.specs.Spelling.{CanMean}
-use Rattle.s66_line.proofs.OperationLaw.{CanMean-instr_of}
-use Rattle.s66_model.specs.declared.rule.Rule.TheVariants.{WrittenEarlier, ClampedStanding}
-use Rattle.s66_model.specs.Timing.{Problem, Point, points_of, next, done_of, readers_wait, total_of}
-use Rattle.s66_model.specs.LegalOrder.{IsBeginning}
-use Rattle.s66_model.specs.Digits.{HasDigits, HaveDigits}
-use Rattle.s66_model.specs.Dominance.{place_in_word, references_wait, stores_wait, free_times, Clamp, IsNoLater, IsSameSet, DominatesBy, no_clamp, Dominates, clamp_at, DominatesClamped}
+use Rattle.s66_model.specs.{WrittenEarlier, ClampedStanding, Problem, Point, points_of, next, done_of, readers_wait, total_of, IsBeginning, HasDigits, HaveDigits, place_in_word, references_wait}
+use Rattle.s66_model.specs.{stores_wait, free_times, Clamp, IsNoLater, IsSameSet, DominatesBy, no_clamp, Dominates, clamp_at, DominatesClamped}
 use Rattle.s66_model.proofs.LowRegisters.{OnlyLow, low-points}
-use Rattle.s66_cert.specs.Documents.{Document}
-use Rattle.s66_checker.specs.Verdict.{problem_of}
-use Rattle.s66_checker.specs.Dominating.{are_registers_no_later, are_units_no_later, is_no_later, is_same_set, is_beginning, is_ahead, dominates_by}
+use Rattle.s66_line.specs.{operation_in, operand_in, instr_in_text, instr_of, CanMean}
+use Rattle.s66_line.proofs.OperationLaw.{CanMean-instr_of}
+use Rattle.s66_cert.specs.{Document}
+use Rattle.s66_checker.specs.{problem_of, are_registers_no_later, are_units_no_later, is_no_later, is_same_set, is_beginning, is_ahead, dominates_by}
 use Rattle.s66_checker.proofs.GoingTo.{goes_on-Decides}
 use Rattle.s66_checker.proofs.NoLater.{le-Decides, registers-Decides, units-Decides}
 use Rattle.s66_checker.proofs.AheadOf.{same_set-Decides}

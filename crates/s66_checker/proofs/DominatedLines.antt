@@ -2,19 +2,11 @@
 use Rattle.std.proofs.Common.{ℕ, ◌≡◌, ◌↔◌, Bool, true, false, true≢false, cond, not, List, [], None, Some, Decides, refl, sym}
 use Rattle.std.proofs.lemmas.Bool.{not-true, not-false, not_from_true, not_from_false}
 use Rattle.std.proofs.lemmas.Bool.Decides.{Decides-and}
-use Rattle.s66_model.specs.declared.rule.Rule.{Rule}
-use Rattle.s66_model.specs.declared.rule.Rule.TheVariants.{NoneNamed, WrittenEarlier, ClampedStanding}
-use Rattle.s66_model.specs.Timing.{Problem}
-use Rattle.s66_model.specs.LegalOrder.{IsBeginning, IsIncomplete}
-use Rattle.s66_model.specs.Digits.{HaveDigits}
-use Rattle.s66_model.specs.Dominance.{IsSameSet}
-use Rattle.s66_model.specs.NodeNames.{node_named}
-use Rattle.s66_model.specs.DominatedLeaves.{Ending, Bounding, Dominated, Factual, may_be_named, DominatesByRule, MayBeDominated, EndingShows}
-use Rattle.s66_model.specs.Trees.{AtTerminal}
-use Rattle.s66_cert.specs.Documents.{Document, is_factual}
+use Rattle.s66_model.specs.{Rule, NoneNamed, WrittenEarlier, ClampedStanding, Problem, IsBeginning, IsIncomplete, HaveDigits, IsSameSet, node_named, Ending, Bounding, Dominated, Factual, may_be_named}
+use Rattle.s66_model.specs.{DominatesByRule, MayBeDominated, EndingShows, AtTerminal}
+use Rattle.s66_cert.specs.{Document, is_factual}
 use Rattle.s66_checker.specs.declared.verdict.Reason.TheVariants as fault
-use Rattle.s66_checker.specs.Dominating.{dominates_by}
-use Rattle.s66_checker.specs.Verdict.{problem_of, is_complete, is_early_enough, is_name, dominated_fault, line_fault}
+use Rattle.s66_checker.specs.{dominates_by, problem_of, is_complete, is_early_enough, is_name, dominated_fault, line_fault}
 use Rattle.s66_checker.proofs.GoingTo.{goes_on-Decides}
 use Rattle.s66_checker.proofs.Faultless.{passed, is_incomplete-Decides, leaf-shows}
 use Rattle.s66_checker.proofs.AheadOf.{same_set-Decides}

@@ -1,9 +1,9 @@
 -- Which of two lists of numbers is the earlier one.
 use Rattle.std.proofs.Common.{ℕ, ◌<◌, ◌≤◌, ◌≡◌, ◌≢◌, ◌⊎◌, ◌==◌, ◌&&◌, ◌||◌, Bool, true, false, true≢false, List, [], ◌∷◌, length, take, get_or, Decides, ltb, refl, sym, inl, inr, arith, zero, suc}
-use Rattle.std.proofs.lemmas.Bool.{eqb-true, eq-eqb, ne_eqb, ltb-true, lt-ltb, le-ltb}
+use Rattle.std.proofs.Common.{eqb-true, eq-eqb, ne_eqb, ltb-true, lt-ltb, le-ltb}
 use Rattle.std.proofs.lemmas.Bool.Decides.{Decides-and, Decides-or}
-use Rattle.s66_model.specs.DominatedLeaves.{IsEarlier}
-use Rattle.s66_checker.specs.Dominating.{is_earlier}
+use Rattle.s66_model.specs.{IsEarlier}
+use Rattle.s66_checker.specs.{is_earlier}
 
 pub is_earlier-Decides : (ns ms : List ℕ) → Decides (is_earlier ns ms) (IsEarlier ns ms)
 is_earlier-Decides [] ms = ((λ h. absurd (true≢false (sym h))), λ h. absurd h)

@@ -1,23 +1,19 @@
 -- A line of a tree is without fault exactly when it shows the bound.
-use Rattle.std.proofs.Common.{ℕ, ◌≤◌, ◌≡◌, ◌≢◌, ◌↔◌, Bool, true, false, true≢false, cond, not, ◌&&◌, List, [], ◌∷◌, ◌++◌, length, None, Some, bytes_eq, Decides, refl, sym, ap, arith, inl, length-append, subst, ◌∙◌}
-use Rattle.std.proofs.lemmas.Bool.{eqb-true, eq-eqb, ne_eqb, ltb-false, le-ltb, not-true, not-false, not_from_true, not_from_false}
+use Rattle.std.proofs.Common.{ℕ, ◌≤◌, ◌≡◌, ◌≢◌, ◌↔◌, Bool, true, false, true≢false, cond, not, ◌&&◌, List, [], ◌∷◌, ◌++◌, length, None, Some, bytes_eq, Decides, refl, sym, ap, arith, inl}
+use Rattle.std.proofs.Common.{length-append, subst, ◌∙◌, eqb-true, eq-eqb, ne_eqb, ltb-false, le-ltb, nat_lt, ◌==◌}
+use Rattle.std.proofs.lemmas.Bool.{not-true, not-false, not_from_true, not_from_false}
 use Rattle.std.proofs.lemmas.Bool.Decides.{Decides-and, Decides-like}
 use Rattle.std.proofs.lemmas.Slice.Eq.{bytes_eq-Decides}
-use Rattle.std.specs.Prelude.{nat_lt, ◌==◌}
-use Rattle.s66_isa.specs.declared.instr.Instr.{Instr}
-use Rattle.s66_isa.specs.Lists.{Among}
-use Rattle.s66_model.specs.Timing.{Problem}
-use Rattle.s66_model.specs.LegalOrder.{IsLegal, is_ready, is_remaining, ready, IsBeginning, IsIncomplete}
-use Rattle.s66_model.specs.Leaves.{Leaf, Whole, Chain, Load, Parcels, value, MayStand, IsWalk, IsChain, is_linked}
-use Rattle.s66_model.specs.Trees.{LeafShows, AtSplit}
-use Rattle.s66_cert.specs.Documents.{Document}
+use Rattle.s66_isa.specs.{Instr, Among}
+use Rattle.s66_model.specs.{Problem, IsLegal, is_ready, is_remaining, ready, IsBeginning, IsIncomplete, Leaf, Whole, Chain, Load, Parcels, value, MayStand, IsWalk, IsChain, is_linked, LeafShows}
+use Rattle.s66_model.specs.{AtSplit}
 use Rattle.s66_model.proofs.LegalOrders.{order-legal, legal-order}
 use Rattle.s66_model.proofs.Beginnings.{beginning-front}
 use Rattle.s66_model.proofs.Remaining.{ready-among, step-begins}
+use Rattle.s66_cert.specs.{Document}
 use Rattle.s66_checker.specs.declared.verdict.Reason.TheVariants as fault
-use Rattle.s66_checker.specs.Dominating.{is_beginning_after}
+use Rattle.s66_checker.specs.{is_beginning_after, problem_of, is_legal_order, is_walk, has_links, is_complete, is_at_its_place, leaf_fault, line_fault}
 use Rattle.s66_checker.proofs.GoingTo.{goes_on-Decides}
-use Rattle.s66_checker.specs.Verdict.{problem_of, is_legal_order, is_walk, has_links, is_complete, is_at_its_place, leaf_fault, line_fault}
 
 -- no fault if the test fails, and none after it
 pub passed : {X : Type 0} (test : Bool) (fault later none : X) → (fault ≡ none → ⊥) → (cond test fault later ≡ none) ↔ ((test ≡ false) × (later ≡ none))

@@ -1,18 +1,13 @@
 -- What is stated of the numbers that remain after two beginnings: whether each finds nothing later after one of them.
-use Rattle.std.proofs.Common.{ℕ, ◌+◌, ◌≤◌, ◌<◌, ◌≡◌, ◌⊎◌, ◌↔◌, ◌∙◌, ◌==◌, ◌||◌, Bool, IsTrue, true, List, [], sym, ap, subst, arith, inl, inr, leb, ltb}
-use Rattle.std.proofs.lemmas.Bool.{le-leb, eq-eqb}
+use Rattle.std.proofs.Common.{ℕ, ◌+◌, ◌≤◌, ◌<◌, ◌≡◌, ◌⊎◌, ◌↔◌, ◌∙◌, ◌==◌, ◌||◌, Bool, IsTrue, true, List, [], sym, ap, subst, arith, inl, inr, leb, ltb, le-leb, eq-eqb}
 use Rattle.std.proofs.lemmas.Bool.Decides.{Decides-or, Decides-ltb, same_from_decides}
-use Rattle.s66_isa.specs.Lists.{every}
-use Rattle.s66_isa.specs.Table.{Row}
+use Rattle.s66_isa.specs.{every, Row}
 use Rattle.s66_isa.proofs.Lists.{cases_le}
-use Rattle.s66_model.specs.Timing.{Problem, Point, next, points_of, total_of}
-use Rattle.s66_model.specs.LegalOrder.{IsBeginning, is_remaining, remaining}
-use Rattle.s66_model.specs.Dominance.{place_in_word}
-use Rattle.s66_moments.specs.KnownFacts.{Known}
-use Rattle.s66_checker.specs.Dominating.{is_beginning, is_same_set, finds_no_later, number_finds_no_later, dominates_in_use}
+use Rattle.s66_model.specs.{Problem, Point, next, points_of, total_of, IsBeginning, is_remaining, remaining, place_in_word}
+use Rattle.s66_moments.specs.{Known}
+use Rattle.s66_checker.specs.{is_beginning, is_same_set, finds_no_later, number_finds_no_later, dominates_in_use}
 use Rattle.s66_checker.proofs.GoingTo.{goes_on-Decides}
-use Rattle.s66_checker.proofs.NoLater.{le-Decides}
-use Rattle.s66_checker.proofs.NoLater.{last-left as last-of-seven}
+use Rattle.s66_checker.proofs.NoLater.{le-Decides, last-left as last-of-seven}
 use Rattle.s66_checker.proofs.InUseTests.{remaining-Decides}
 
 pub found-stated : (count : ℕ) (xs ys : List Point) (issue start : ℕ) (r : Row) (count2 : ℕ) (xs2 ys2 : List Point) (issue2 start2 : ℕ) (r2 : Row) → count ≡ count2 → xs ≡ xs2 → ys ≡ ys2 → issue ≡ issue2 → start ≡ start2 → r ≡ r2 → finds_no_later count xs ys issue start r ≡ finds_no_later count2 xs2 ys2 issue2 start2 r2

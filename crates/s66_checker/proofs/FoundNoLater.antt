@@ -1,16 +1,11 @@
 -- What is stated of an instruction that comes after two pasts: that it finds nothing later after one of them.
-use Rattle.std.proofs.Common.{ℕ, ◌+◌, ◌≤◌, ◌<◌, ◌≡◌, ◌∙◌, ◌&&◌, Bool, true, false, cond, max, List, reverse, refl, sym, ap, leb}
-use Rattle.std.proofs.lemmas.Bool.{le-leb, lt-leb}
-use Rattle.s66_isa.specs.declared.instr.Kind.{Kind}
-use Rattle.s66_isa.specs.declared.instr.Memory.{Memory}
-use Rattle.s66_isa.specs.declared.reg.Reg.{Reg}
-use Rattle.s66_isa.specs.Lists.{every, greatest}
-use Rattle.s66_isa.specs.Table.{Row, Write, has_reg, memory_pair}
-use Rattle.s66_model.specs.Timing.{Point, done_at, done_of, memory_wait}
-use Rattle.s66_model.specs.Dominance.{free_times}
-use Rattle.s66_checker.specs.Dominating.{are_results_no_later, are_places_no_later, are_operands_no_later, is_reader_no_later, are_readers_no_later, finds_no_later}
-use Rattle.s66_checker.proofs.Reversed.{greatest-reverse}
+use Rattle.std.proofs.Common.{ℕ, ◌+◌, ◌≤◌, ◌<◌, ◌≡◌, ◌∙◌, ◌&&◌, Bool, true, false, cond, max, List, reverse, refl, sym, ap, leb, le-leb}
+use Rattle.std.proofs.lemmas.Bool.{lt-leb}
+use Rattle.s66_isa.specs.{Kind, Memory, Reg, every, greatest, Row, Write, has_reg, memory_pair}
+use Rattle.s66_model.specs.{Point, done_at, done_of, memory_wait, free_times}
 use Rattle.s66_model.proofs.WrittenOrders.{every-same}
+use Rattle.s66_checker.specs.{are_results_no_later, are_places_no_later, are_operands_no_later, is_reader_no_later, are_readers_no_later, finds_no_later}
+use Rattle.s66_checker.proofs.Reversed.{greatest-reverse}
 
 -- THE OLDEST FIRST, or the newest
 

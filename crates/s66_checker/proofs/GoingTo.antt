@@ -1,11 +1,10 @@
 -- From one beginning to another with the same front.
-use Rattle.std.proofs.Common.{ℕ, ◌≤◌, ◌≡◌, ◌&&◌, Decides, List, [], ◌∷◌, ◌++◌, length, take, drop, refl, sym, ap, subst, ◌∙◌, append_assoc}
-use Rattle.std.proofs.lemmas.List.{append-nil, take-append-drop, take_all}
+use Rattle.std.proofs.Common.{ℕ, ◌≤◌, ◌≡◌, ◌&&◌, Decides, List, [], ◌∷◌, ◌++◌, length, take, drop, refl, sym, ap, subst, ◌∙◌, append_assoc, append-nil, take-append-drop, take_all}
 use Rattle.std.proofs.lemmas.Bool.Decides.{Decides-and}
-use Rattle.s66_isa.specs.declared.instr.Instr.{Instr}
-use Rattle.s66_model.specs.LegalOrder.{GoesOn, IsBeginning, is_ready}
+use Rattle.s66_isa.specs.{Instr}
+use Rattle.s66_model.specs.{GoesOn, IsBeginning, is_ready}
 use Rattle.s66_model.proofs.LegalOrders.{GoesOn-append}
-use Rattle.s66_checker.specs.Dominating.{is_beginning_after}
+use Rattle.s66_checker.specs.{is_beginning_after}
 
 -- the test says yes exactly when they go on
 pub goes_on-Decides : (block : List Instr) (prefix ns : List ℕ) → Decides (is_beginning_after block prefix ns) (GoesOn block prefix ns)

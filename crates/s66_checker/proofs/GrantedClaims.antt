@@ -1,27 +1,17 @@
 -- If the verdict is yes the claim is true, and without fact lines exactly then.
-use Rattle.std.proofs.Common.{ℕ, suc, ◌≡◌, ◌↔◌, ◌≤◌, ◌∙◌, Bool, false, cond, not, List, [], ◌∷◌, Option, None, Some, refl, sym, ap, subst, inl, inr, unwrap_or}
-use Rattle.std.proofs.lemmas.Bool.{eqb-true, eq-eqb, ltb-false, le-ltb, not-false, not_from_true, or_parts}
-use Rattle.std.specs.Prelude.{nat_lt, ◌==◌}
-use Rattle.s66_isa.specs.Lists.{Among, some_of}
-use Rattle.s66_model.specs.Timing.{Problem, total_of}
-use Rattle.s66_model.specs.LegalOrder.{IsLegal, IsBeginning}
-use Rattle.s66_model.specs.declared.rule.Rule.TheVariants.{ClampedStanding}
-use Rattle.s66_model.specs.BestAndBound.{IsBound}
-use Rattle.s66_model.specs.Trees.{Vertex, AtTerminal, flat}
-use Rattle.s66_model.specs.DominatedLeaves.{Ending, EndingShows}
+use Rattle.std.proofs.Common.{ℕ, suc, ◌≡◌, ◌↔◌, ◌≤◌, ◌∙◌, Bool, false, cond, not, List, [], ◌∷◌, Option, None, Some, refl, sym, ap, subst, inl, inr, unwrap_or, eqb-true, eq-eqb, ltb-false, le-ltb}
+use Rattle.std.proofs.Common.{nat_lt, ◌==◌}
+use Rattle.std.proofs.lemmas.Bool.{not-false, not_from_true, or_parts}
+use Rattle.s66_isa.specs.{Among, some_of}
+use Rattle.s66_model.specs.{Problem, total_of, IsLegal, IsBeginning, ClampedStanding, IsBound, Vertex, AtTerminal, flat, Ending, EndingShows}
 use Rattle.s66_model.proofs.DominatedTrees.{shown-below}
-use Rattle.s66_moments.specs.declared.fact_line.FactStep.{FactStep}
-use Rattle.s66_moments.specs.LineTrees.{ShowsByLines}
-use Rattle.s66_moments.specs.Suppositions.{standing_first, shown_by_all}
+use Rattle.s66_moments.specs.{FactStep, ShowsByLines, standing_first, shown_by_all}
 use Rattle.s66_moments.proofs.ClosedTrees.{lines-below}
-use Rattle.s66_cert.specs.Documents.{Document, IsDocument, AreFacts, HasItsLeaves, is_factual, tree_placed}
+use Rattle.s66_cert.specs.{Document, IsDocument, AreFacts, HasItsLeaves, is_factual, tree_placed}
 use Rattle.s66_checker.specs.declared.verdict.Verdict.{Verdict}
-use Rattle.s66_checker.specs.declared.verdict.Verdict.TheVariants.{Yes, No}
-use Rattle.s66_checker.specs.declared.verdict.Reason.{Reason}
+use Rattle.s66_checker.specs.{Yes, No, Reason, AreTaken, line_tree, IsShown, IsTrueClaim, problem_of, facts_of, is_legal_order, line_fault, unless, lines_verdict, facts_verdict, time_line_number}
+use Rattle.s66_checker.specs.{bound_line_number, order_line_number, fact_line_number, tree_line_number, verdict}
 use Rattle.s66_checker.specs.declared.verdict.Reason.TheVariants as fault
-use Rattle.s66_checker.specs.KeptKnown.{AreTaken}
-use Rattle.s66_checker.specs.TrueClaims.{line_tree, IsShown, IsTrueClaim}
-use Rattle.s66_checker.specs.Verdict.{problem_of, facts_of, is_legal_order, line_fault, unless, lines_verdict, facts_verdict, time_line_number, bound_line_number, order_line_number, fact_line_number, tree_line_number, verdict}
 use Rattle.s66_checker.proofs.Faultless.{passed, is_legal_order-Decides}
 use Rattle.s66_checker.proofs.DominatedLines.{ending-shows}
 use Rattle.s66_checker.proofs.TreeClaims.{Pass, tree-shows}

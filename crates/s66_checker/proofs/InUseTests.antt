@@ -1,28 +1,19 @@
 -- Where the test of dominance in use says yes there is such dominance, if what is known is. It does so of all that dominates clamped.
-use Rattle.std.proofs.Common.{ℕ, ◌+◌, ◌≤◌, ◌<◌, ◌≡◌, ◌⊎◌, ◌==◌, Bool, true, max, List, [], get_or, arith, inr, leb, ltb, Decides, refl, None, false}
-use Rattle.std.proofs.lemmas.Bool.{le-leb, leb-true, eqb-true, eq-eqb}
+use Rattle.std.proofs.Common.{ℕ, ◌+◌, ◌≤◌, ◌<◌, ◌≡◌, ◌⊎◌, ◌==◌, Bool, true, max, List, [], get_or, arith, inr, leb, ltb, Decides, refl, None, false, le-leb, leb-true, eqb-true, eq-eqb}
 use Rattle.std.proofs.lemmas.Bool.Decides.{Decides-like, Decides-and, Decides-or, Decides-ltb}
-use Rattle.s66_isa.specs.declared.instr.Instr.{Instr}
-use Rattle.s66_isa.specs.declared.reg.Reg.{Reg}
-use Rattle.s66_isa.specs.Lists.{every, Among}
-use Rattle.s66_isa.specs.Table.{Row, Write}
+use Rattle.s66_isa.specs.{Instr, Reg, every, Among, Row, Write}
 use Rattle.s66_isa.proofs.Lists.{every-each, each-every}
-use Rattle.s66_model.specs.declared.rule.Rule.TheVariants.{ClampedStanding}
-use Rattle.s66_model.specs.Timing.{Problem, Point, row_at, copies, next, done_of, memory_wait, readers_wait, point_of, points_of, total_of}
-use Rattle.s66_model.specs.LegalOrder.{IsBeginning, is_remaining, remaining}
-use Rattle.s66_model.specs.Dominance.{place_in_word, free_times, IsSameSet, DominatesClamped}
+use Rattle.s66_model.specs.{ClampedStanding, Problem, Point, row_at, copies, next, done_of, memory_wait, readers_wait, point_of, points_of, total_of, IsBeginning, is_remaining, remaining}
+use Rattle.s66_model.specs.{place_in_word, free_times, IsSameSet, DominatesClamped}
 use Rattle.s66_model.proofs.Dominating.{clamped-total}
 use Rattle.s66_model.proofs.Remaining.{among-remaining, remaining-among}
-use Rattle.s66_moments.specs.Facts.{Fact}
-use Rattle.s66_moments.specs.Networks.{IsKnown}
-use Rattle.s66_moments.specs.InUse.{FindsNoLater, DominatesInUse}
-use Rattle.s66_moments.specs.KnownFacts.{Known, issue_at_least, start_at_least}
+use Rattle.s66_moments.specs.{Fact, IsKnown, FindsNoLater, DominatesInUse, Known, issue_at_least, start_at_least}
 use Rattle.s66_moments.proofs.InUse.{finds-later, clamped-finds}
 use Rattle.s66_moments.proofs.Turns.{turn-comes}
-use Rattle.s66_cert.specs.Documents.{Document}
-use Rattle.s66_checker.specs.Verdict.{problem_of, known_of, node_on, is_complete, is_name_at, name_of, at_line_fault}
+use Rattle.s66_cert.specs.{Document}
+use Rattle.s66_checker.specs.{problem_of, known_of, node_on, is_complete, is_name_at, name_of, at_line_fault, dominates_by, is_beginning, is_same_set, finds_no_later, number_finds_no_later}
+use Rattle.s66_checker.specs.{dominates_in_use}
 use Rattle.s66_checker.proofs.DominanceTests.{clamped-Decides, document-digits}
-use Rattle.s66_checker.specs.Dominating.{dominates_by, is_beginning, is_same_set, finds_no_later, number_finds_no_later, dominates_in_use}
 use Rattle.s66_checker.proofs.GoingTo.{goes_on-Decides}
 use Rattle.s66_checker.proofs.NoLater.{le-Decides, places-Decides}
 use Rattle.s66_checker.proofs.AheadOf.{same_set-Decides}

@@ -1,12 +1,10 @@
 -- When an instruction issues, starts and is done, by looking back.
 use Rattle.std.proofs.Common.{ℕ, ◌+◌, ◌≤◌, ◌<◌, ◌≡◌, cond, max, List, [], ◌∷◌, map, reverse, refl, sym, arith, ◌∙◌}
-use Rattle.s66_isa.specs.declared.reg.Reg.{Reg}
-use Rattle.s66_isa.specs.Lists.{greatest, tally}
-use Rattle.s66_isa.specs.Table.{Row, Write, has_reg, memory_pair}
-use Rattle.s66_model.specs.Timing.{Problem, Point, ResultAt, copies, done_of, last_done, done_at, busy_at, issue_of, start_of, slot_of, parcel_of, result_at, free_after, point}
+use Rattle.s66_isa.specs.{Reg, greatest, tally, Row, Write, has_reg, memory_pair}
 use Rattle.s66_isa.proofs.Lists.{greatest-same}
+use Rattle.s66_model.specs.{Problem, Point, ResultAt, copies, done_of, last_done, done_at, busy_at, issue_of, start_of, slot_of, parcel_of, result_at, free_after, point}
 use Rattle.s66_model.proofs.Issue.{issue-join}
-use Rattle.s66_checker.specs.KeptPrefix.{AreTimed}
+use Rattle.s66_checker.specs.{AreTimed}
 use Rattle.s66_checker.proofs.Reversed.{greatest-reverse, tally-reverse}
 use Rattle.s66_checker.proofs.KeptPoints.{timed-latest}
 

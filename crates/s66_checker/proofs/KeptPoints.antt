@@ -2,19 +2,13 @@
 use Rattle.std.proofs.Common.{ℕ, ◌+◌, ◌-◌, ◌*◌, ◌≤◌, ◌<◌, ◌≡◌, max, List, [], ◌∷◌, length, get_or, reverse, refl, sym, ap, subst, arith}
 use Rattle.std.proofs.lemmas.Bool.{cond_both}
 use Rattle.std.proofs.lemmas.List.{length-reverse}
-use Rattle.s66_isa.specs.declared.instr.Kind.{Kind}
-use Rattle.s66_isa.specs.declared.reg.Reg.{Reg}
-use Rattle.s66_isa.specs.Lists.{greatest, weigh}
-use Rattle.s66_isa.specs.Table.{Row, Write, same_kind}
-use Rattle.s66_isa.specs.Rows.{IsInRange}
+use Rattle.s66_isa.specs.{Kind, Reg, greatest, weigh, Row, Write, same_kind, IsInRange, BLOCK_LIMIT}
 use Rattle.s66_isa.proofs.Lists.{greatest-le}
-use Rattle.s66_isa.specs.declared.limits.TheConstants.{BLOCK_LIMIT}
-use Rattle.s66_model.specs.Timing.{Problem, Point, end_of, total, done_of, last_done, row_at, point_of, points_after}
-use Rattle.s66_model.specs.Leaves.{rest_busy}
+use Rattle.s66_model.specs.{Problem, Point, end_of, total, done_of, last_done, row_at, point_of, points_after, rest_busy}
 use Rattle.s66_model.proofs.Growth.{AreSmall, point-ordered, total-le}
 use Rattle.s66_model.proofs.PointTimes.{good-at, points_after-length, point_of-row, issue-le-start, hold-le-free}
 use Rattle.s66_model.proofs.ChainBound.{last-is_greatest}
-use Rattle.s66_checker.specs.KeptPrefix.{TOTAL_LIMIT, AreTimed}
+use Rattle.s66_checker.specs.{TOTAL_LIMIT, AreTimed}
 use Rattle.s66_checker.proofs.Reversed.{greatest-reverse, reverse-last}
 
 -- OF THE NEWEST FIRST

@@ -1,9 +1,8 @@
 -- A document's profile has the numbers of one.
 use Rattle.std.proofs.Common.{◌≤◌, ℕ, List, [], ◌∷◌, All}
 use Rattle.std.proofs.lemmas.List.Elements.{All-cons, All-nil}
-use Rattle.s66_isa.specs.Profiles.{IsProfile}
-use Rattle.s66_isa.specs.declared.limits.TheConstants.{BLOCK_LIMIT, PROFILE_LIMIT}
-use Rattle.s66_cert.specs.Documents.{Document, AreIn, IsDocument}
+use Rattle.s66_isa.specs.{IsProfile, BLOCK_LIMIT, PROFILE_LIMIT}
+use Rattle.s66_cert.specs.{Document, AreIn, IsDocument}
 
 all-in : (low high : ℕ) (ns : List ℕ) → AreIn low high ns → All (λ n. (low ≤ n) × (n ≤ high)) ns
 all-in low high [] are = All-nil (λ n. (low ≤ n) × (n ≤ high))

@@ -1,30 +1,19 @@
 -- The longest paths from all moments to the end are their tails, by what is known after fact lines that are taken; and whether what comes next is too late by them.
 use Rattle.std.proofs.Common.{ℕ, zero, suc, ◌-◌, get_or, ◌≡◌, ◌≤◌, ◌+◌, ◌||◌, ◌&&◌, length, Option, Bool, true, false, max, leb, List, [], ◌∷◌, map, Some, refl, sym, ap, ◌∙◌, subst, arith, inl, inr}
-use Rattle.std.proofs.lemmas.Bool.{cases_Bool, and_from, or_left, or_right, leb-true, leb-false, le-leb, lt-leb}
+use Rattle.std.proofs.Common.{leb-true, leb-false, le-leb}
+use Rattle.std.proofs.lemmas.Bool.{cases_Bool, and_from, or_left, or_right, lt-leb}
 use Rattle.std.proofs.Math.Bool.{or_assoc}
-use Rattle.s66_isa.specs.Lists.{greatest, some_of, Among}
-use Rattle.s66_isa.specs.Table.{Write, same_reg}
+use Rattle.s66_isa.specs.{greatest, some_of, Among, Write, same_reg}
 use Rattle.s66_isa.proofs.SameRegister.{same_reg-self}
+use Rattle.s66_model.specs.{Problem, Point, row_at, point_of, points_of, done_at, is_remaining}
 use Rattle.s66_model.proofs.PointTimes.{good-at}
-use Rattle.s66_moments.specs.declared.moment.Stage.TheVariants.{Issue, Start, Done, Free}
-use Rattle.s66_moments.specs.declared.moment.Stage.{Stage}
-use Rattle.s66_model.specs.Timing.{Problem, Point, row_at, point_of, points_of, done_at}
-use Rattle.s66_model.specs.LegalOrder.{is_remaining}
 use Rattle.s66_model.proofs.Remaining.{remaining-parts}
-use Rattle.s66_moments.specs.Facts.{IsNumber}
-use Rattle.s66_facts.specs.declared.times.Times.{Times}
-use Rattle.s66_facts.specs.Passes.{AreResults, no_times, times_at}
-use Rattle.s66_moments.specs.declared.moment.Moment.{Moment}
-use Rattle.s66_moments.specs.declared.moment.Moment.TheVariants.{At, End}
-use Rattle.s66_moments.specs.Moments.{is_moment, has_stage}
-use Rattle.s66_moments.specs.Networks.{tail, soonest_path}
-use Rattle.s66_moments.specs.KnownFacts.{Known, span, arcs_of, next_value}
+use Rattle.s66_moments.specs.{Issue, Start, Done, Free, Stage, IsNumber, Moment, At, End, is_moment, has_stage, tail, soonest_path, Known, span, arcs_of, next_value}
 use Rattle.s66_moments.proofs.KnownLines.{span-tail}
-use Rattle.s66_cert.specs.Documents.{Document}
-use Rattle.s66_facts.specs.BlockGround.{Ground, known_of as known_in}
-use Rattle.s66_checker.specs.Verdict.{problem_of, known_of}
+use Rattle.s66_facts.specs.{Times, AreResults, no_times, times_at, Ground, known_of as known_in}
+use Rattle.s66_cert.specs.{Document}
+use Rattle.s66_checker.specs.{problem_of, known_of, KnowsAll, AreTaken, HasTails, AreTails, is_reached, is_result_late, is_point_late}
 use Rattle.s66_checker.proofs.TakenLines.{shown_facts, taken-sound}
-use Rattle.s66_checker.specs.KeptKnown.{KnowsAll, AreTaken, HasTails, AreTails, is_reached, is_result_late, is_point_late}
 
 abbrev TailsAre : Problem → Known → Type 0
 TailsAre b known =

@@ -1,18 +1,12 @@
 -- The parts of which leaves' values are made fit into the machine's numbers: heads, links, tails, and work.
 use Rattle.std.proofs.Common.{ℕ, ◌+◌, ◌≤◌, ◌≡◌, true, false, true≢false, ◌&&◌, cond, max, List, [], ◌∷◌, reverse, refl, sym, ap, arith, inl, inr, ◌∙◌}
 use Rattle.std.proofs.lemmas.Bool.{cond_both, cases_Bool, and_parts, and_from}
-use Rattle.s66_isa.specs.declared.instr.Kind.{Kind}
-use Rattle.s66_isa.specs.declared.reg.Reg.{Reg}
-use Rattle.s66_isa.specs.Lists.{greatest, weigh}
-use Rattle.s66_isa.specs.Table.{Row, Write, same_kind, memory_pair}
+use Rattle.s66_isa.specs.{Kind, Reg, greatest, weigh, Row, Write, same_kind, memory_pair, IsInRange}
 use Rattle.s66_isa.proofs.Lists.{greatest-le, greatest-same, greatest-le-greatest}
-use Rattle.s66_isa.specs.Rows.{IsInRange}
-use Rattle.s66_model.specs.Timing.{Problem, Point, row_at, copies, points_of, total, next, done_of, done_at, end_of}
-use Rattle.s66_model.specs.LegalOrder.{is_remaining, sum_remaining}
-use Rattle.s66_model.specs.Leaves.{tail, uses, work_of, link, is_linked, head, over, load, rest_busy}
+use Rattle.s66_model.specs.{Problem, Point, row_at, copies, points_of, total, next, done_of, done_at, end_of, is_remaining, sum_remaining, tail, uses, work_of, link, is_linked, head, over, load}
+use Rattle.s66_model.specs.{rest_busy}
 use Rattle.s66_model.proofs.Issue.{done_of-le-total}
-use Rattle.s66_checker.specs.KeptPrefix.{TOTAL_LIMIT, AreTimed}
-use Rattle.s66_checker.specs.Verdict.{is_walk}
+use Rattle.s66_checker.specs.{TOTAL_LIMIT, AreTimed, is_walk}
 use Rattle.s66_checker.proofs.Reversed.{greatest-reverse}
 use Rattle.s66_checker.proofs.KeptPoints.{latencies-le, timed-total}
 

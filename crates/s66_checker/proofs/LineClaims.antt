@@ -1,27 +1,17 @@
 -- A tree whose lines have no fault, after fact lines that are taken, shows the bound by them.
-use Rattle.std.proofs.Common.{ℕ, ◌≤◌, ◌≡◌, Bool, true, true≢false, cond, not, ◌&&◌, List, [], Option, None, Some, leb, arith, refl, sym, ap, ◌∙◌, subst}
-use Rattle.std.proofs.lemmas.Bool.{leb-true, not-false, not_from_false, and_parts}
-use Rattle.s66_model.specs.declared.rule.Rule.{Rule}
-use Rattle.s66_model.specs.declared.rule.Rule.TheVariants.{ClampedStanding}
-use Rattle.s66_model.specs.Timing.{Problem}
-use Rattle.s66_model.specs.LegalOrder.{IsBeginning, is_remaining}
-use Rattle.s66_model.specs.Trees.{Vertex, AtTerminal, TreeHolds}
-use Rattle.s66_model.specs.NodeNames.{node_named}
-use Rattle.s66_model.specs.DominatedLeaves.{Ending, Bounding, Dominated, Factual, is_standing, may_be_named, DominatesByRule}
-use Rattle.s66_model.specs.FactLeaves.{Next, Turned, AtLine, LoadFrom}
+use Rattle.std.proofs.Common.{ℕ, ◌≤◌, ◌≡◌, Bool, true, true≢false, cond, not, ◌&&◌, List, [], Option, None, Some, leb, arith, refl, sym, ap, ◌∙◌, subst, leb-true}
+use Rattle.std.proofs.lemmas.Bool.{not-false, not_from_false, and_parts}
+use Rattle.s66_model.specs.{Rule, ClampedStanding, Problem, IsBeginning, is_remaining, Vertex, AtTerminal, TreeHolds, node_named, Ending, Bounding, Dominated, Factual, is_standing, may_be_named}
+use Rattle.s66_model.specs.{DominatesByRule, Next, Turned, AtLine, LoadFrom}
 use Rattle.s66_model.proofs.TreesHold.{tree-weaken, seen-holds}
-use Rattle.s66_moments.specs.Facts.{Fact}
-use Rattle.s66_moments.specs.KnownFacts.{next_value, is_turned, is_loaded}
-use Rattle.s66_moments.specs.LineTrees.{LineEnding, is_closed, LineEndingShows, ShowsByLines}
+use Rattle.s66_moments.specs.{Fact, next_value, is_turned, is_loaded, LineEnding, is_closed, LineEndingShows, ShowsByLines}
 use Rattle.s66_moments.proofs.InUse.{clamped-in_use}
 use Rattle.s66_moments.proofs.KnownLines.{IsSound, next-too_late, turned-too_late}
 use Rattle.s66_moments.proofs.LoadLeaves.{loaded-closed}
-use Rattle.s66_cert.specs.Documents.{Document}
+use Rattle.s66_cert.specs.{Document}
 use Rattle.s66_checker.specs.declared.verdict.Reason.TheVariants as fault
-use Rattle.s66_checker.specs.Dominating.{is_beginning, is_same_set, dominates_in_use}
-use Rattle.s66_checker.specs.Verdict.{problem_of, known_of, node_on, is_complete, is_name_at, name_of, at_line_fault, next_fault, turned_fault, load_from_fault, line_fault}
-use Rattle.s66_checker.specs.KeptKnown.{AreTaken}
-use Rattle.s66_checker.specs.TrueClaims.{line_ending, line_tree}
+use Rattle.s66_checker.specs.{is_beginning, is_same_set, dominates_in_use, problem_of, known_of, node_on, is_complete, is_name_at, name_of, at_line_fault, next_fault, turned_fault, load_from_fault}
+use Rattle.s66_checker.specs.{line_fault, AreTaken, line_ending, line_tree}
 use Rattle.s66_checker.proofs.Faultless.{passed, is_incomplete-Decides, leaf-shows}
 use Rattle.s66_checker.proofs.DominatedLines.{dominated-shows}
 use Rattle.s66_checker.proofs.InUseTests.{in_use-shown}

@@ -1,24 +1,14 @@
 -- The node of each line of a tree that splits into the ready numbers has its prefix as its name, and may be named in the tree of line endings if it may be in this one.
-use Rattle.std.proofs.Common.{ℕ, zero, suc, ◌<◌, ◌+◌, ◌-◌, ◌≤◌, ◌≡◌, ◌≢◌, Bool, true, false, ◌&&◌, eqb, ltb, ne_eqb, eq-eqb, length, List, [], ◌∷◌, ◌++◌, Option, None, Some, slice_get, filter, refl, sym, ap, ◌∙◌, subst, inl, inr, arith, append_assoc}
-use Rattle.std.proofs.lemmas.Bool.{cases_Bool, lt-ltb, le-ltb}
-use Rattle.s66_isa.specs.Lists.{Among, rising}
+use Rattle.std.proofs.Common.{ℕ, zero, suc, ◌<◌, ◌+◌, ◌-◌, ◌≤◌, ◌≡◌, ◌≢◌, Bool, true, false, ◌&&◌, eqb, ltb, ne_eqb, eq-eqb, length, List, [], ◌∷◌, ◌++◌, Option, None, Some, slice_get, filter, refl}
+use Rattle.std.proofs.Common.{sym, ap, ◌∙◌, subst, inl, inr, arith, append_assoc, lt-ltb, le-ltb}
+use Rattle.std.proofs.lemmas.Bool.{cases_Bool}
+use Rattle.s66_isa.specs.{Among, rising, Instr, numbers, BLOCK_LIMIT}
 use Rattle.s66_isa.proofs.Lists.{among-rising, got-among, split-among, filter-among}
-use Rattle.s66_isa.specs.declared.instr.Instr.{Instr}
-use Rattle.s66_isa.specs.Table.{numbers}
-use Rattle.s66_model.specs.LegalOrder.{is_ready, ready}
-use Rattle.s66_model.specs.Trees.{Tree, Alone, Parted, Siblings, NoMore, Unsplit, Split, Vertex, SiblingsHold, TreeHolds}
-use Rattle.s66_model.specs.NodeNames.{terminal_at, sibling_at, node_named}
-use Rattle.s66_model.specs.DominatedLeaves.{Ending, Bounding, Dominated, Factual, is_standing}
-use Rattle.s66_model.specs.FactLeaves.{Next, Turned, AtLine, LoadFrom}
-use Rattle.s66_model.specs.Stated.{siblings_seen, tree_seen}
-use Rattle.s66_moments.specs.LineTrees.{LineEnding, is_closed}
-use Rattle.s66_cert.specs.Documents.{Document, siblings_placed, tree_placed}
-use Rattle.s66_checker.specs.Dominating.{is_beginning, is_same_set}
-use Rattle.s66_checker.specs.Verdict.{problem_of, tree_line_number, node_on, is_name_at}
-use Rattle.s66_isa.specs.declared.limits.TheConstants.{BLOCK_LIMIT}
-use Rattle.s66_cert.specs.NodePlaces.{IsLineAt}
-use Rattle.s66_checker.specs.NamedNodes.{IsNodeOn}
-use Rattle.s66_checker.specs.TrueClaims.{line_ending, line_tree}
+use Rattle.s66_model.specs.{is_ready, ready, Tree, Alone, Parted, Siblings, NoMore, Unsplit, Split, Vertex, SiblingsHold, TreeHolds, terminal_at, sibling_at, node_named, Ending, Bounding, Dominated}
+use Rattle.s66_model.specs.{Factual, is_standing, Next, Turned, AtLine, LoadFrom, siblings_seen, tree_seen}
+use Rattle.s66_moments.specs.{LineEnding, is_closed}
+use Rattle.s66_cert.specs.{Document, siblings_placed, tree_placed, IsLineAt}
+use Rattle.s66_checker.specs.{is_beginning, is_same_set, problem_of, tree_line_number, node_on, is_name_at, IsNodeOn, line_ending, line_tree}
 use Rattle.s66_checker.proofs.GoingTo.{goes_on-Decides}
 use Rattle.s66_checker.proofs.ReadyByNeeds.{beginning-few}
 

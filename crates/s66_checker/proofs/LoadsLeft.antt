@@ -1,12 +1,10 @@
 -- The numbers of a leaf by a load rise, all remain, and so are few.
-use Rattle.std.proofs.Common.{ℕ, ◌+◌, ◌≤◌, ◌≡◌, Bool, false, true, true≢false, List, [], ◌∷◌, length, refl, arith, inl, inr, ltb}
-use Rattle.std.proofs.lemmas.Bool.{and_parts, and_cases, and_left, and_right, ltb-true}
-use Rattle.s66_isa.specs.declared.instr.Kind.{Kind}
-use Rattle.s66_isa.specs.Lists.{every}
-use Rattle.s66_model.specs.Timing.{Problem}
-use Rattle.s66_model.specs.LegalOrder.{is_remaining}
+use Rattle.std.proofs.Common.{ℕ, ◌+◌, ◌≤◌, ◌≡◌, Bool, false, true, true≢false, List, [], ◌∷◌, length, refl, arith, inl, inr, ltb, ltb-true}
+use Rattle.std.proofs.lemmas.Bool.{and_parts, and_cases, and_left, and_right}
+use Rattle.s66_isa.specs.{Kind, every}
+use Rattle.s66_model.specs.{Problem, is_remaining}
 use Rattle.s66_model.proofs.Remaining.{remaining-parts}
-use Rattle.s66_moments.specs.KnownFacts.{Known, are_rising, is_left}
+use Rattle.s66_moments.specs.{Known, are_rising, is_left}
 
 module _ (b : Problem) (prefix : List ℕ) where
   abbrev remains : ℕ → Bool

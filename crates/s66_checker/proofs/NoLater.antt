@@ -1,19 +1,10 @@
 -- The tests of `src/replay/dominance.rt` decide what they state: registers, places in a word, and units, each by itself.
-use Rattle.std.proofs.Common.{ℕ, ◌≤◌, ◌<◌, ◌≡◌, ◌&&◌, Bool, true, false, max, List, ◌++◌, map, get_or, refl, sym, arith, inl, inr, leb, Decides}
-use Rattle.std.proofs.lemmas.Bool.{and_left, and_right, le-leb, leb-true}
-use Rattle.s66_isa.specs.declared.instr.Kind.{Kind}
-use Rattle.s66_isa.specs.declared.instr.Kind.TheVariants.{Boolean, Shift, Add, LongAdd, Multiply, Divide, Increment}
-use Rattle.s66_isa.specs.declared.profile.Profile.{Profile}
-use Rattle.s66_isa.specs.declared.reg.Bank.{Bank}
-use Rattle.s66_isa.specs.declared.reg.Bank.TheVariants.{A, B, X}
-use Rattle.s66_isa.specs.declared.reg.Reg.{Reg}
-use Rattle.s66_isa.specs.Lists.{Among, rising}
-use Rattle.s66_isa.specs.Registers.{all_registers}
-use Rattle.s66_isa.specs.Table.{a_reg, b_reg, x_reg, copies_of, all_kinds}
+use Rattle.std.proofs.Common.{ℕ, ◌≤◌, ◌<◌, ◌≡◌, ◌&&◌, Bool, true, false, max, List, ◌++◌, map, get_or, refl, sym, arith, inl, inr, leb, Decides, le-leb, leb-true}
+use Rattle.std.proofs.lemmas.Bool.{and_left, and_right}
+use Rattle.s66_isa.specs.{Kind, Boolean, Shift, Add, LongAdd, Multiply, Divide, Increment, Profile, Bank, A, B, X, Reg, Among, rising, all_registers, a_reg, b_reg, x_reg, copies_of, all_kinds}
 use Rattle.s66_isa.proofs.Lists.{every-each, each-every, among-front, among-rest, rising-among, among-rising, among-map}
-use Rattle.s66_model.specs.Timing.{Point}
-use Rattle.s66_model.specs.Dominance.{free_times}
-use Rattle.s66_checker.specs.Dominating.{are_registers_no_later, are_places_no_later, are_units_no_later}
+use Rattle.s66_model.specs.{Point, free_times}
+use Rattle.s66_checker.specs.{are_registers_no_later, are_places_no_later, are_units_no_later}
 
 pub le-Decides : (a b : ℕ) → Decides (leb a b) (a ≤ b)
 le-Decides a b = (leb-true a b, le-leb a b)

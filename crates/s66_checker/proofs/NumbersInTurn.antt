@@ -1,12 +1,9 @@
 -- A loop over the numbers of a block from 1 on, which filters, sums or keeps the least.
-use Rattle.std.proofs.Common.{ℕ, ◌+◌, ◌<◌, ◌≡◌, Bool, true, false, min, List, [], ◌∷◌, ◌++◌, length, Option, None, Some, refl, sym, ap, subst, add-one, arith, ◌∙◌}
-use Rattle.std.proofs.lemmas.List.{append-nil, length-append}
-use Rattle.std.specs.List.{filter}
+use Rattle.std.proofs.Common.{ℕ, ◌+◌, ◌<◌, ◌≡◌, Bool, true, false, min, List, [], ◌∷◌, ◌++◌, length, Option, None, Some, refl, sym, ap, subst, add-one, arith, ◌∙◌, append-nil, length-append, filter}
 use Rattle.std.proofs.lemmas.List.Elements.{filter-append}
-use Rattle.s66_isa.specs.Lists.{least, weigh, rising}
+use Rattle.s66_isa.specs.{least, weigh, rising}
 use Rattle.s66_isa.proofs.Lists.{weigh-append}
-use Rattle.s66_model.specs.Timing.{Problem}
-use Rattle.s66_model.specs.LegalOrder.{is_remaining, sum_remaining}
+use Rattle.s66_model.specs.{Problem, is_remaining, sum_remaining}
 use Rattle.s66_model.proofs.Beginnings.{rising-push}
 use Rattle.s66_model.proofs.FloorParts.{sum_remaining-weigh}
 

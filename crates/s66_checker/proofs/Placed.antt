@@ -1,9 +1,7 @@
 -- The lines of a tree in preorder, each with its prefix.
 use Rattle.std.proofs.Common.{ℕ, ◌+◌, ◌*◌, ◌≤◌, ◌≡◌, List, [], ◌∷◌, ◌++◌, length, refl, sym, ap, ◌∙◌, arith, append_assoc, append-nil, length-append}
-use Rattle.s66_model.specs.Later.{children}
-use Rattle.s66_model.specs.Trees.{Tree, Alone, Parted, Siblings, NoMore, Unsplit, Split, Vertex, AtTerminal, AtSplit, sibling_splits, splits, flat_siblings, flat}
-use Rattle.s66_model.specs.DominatedLeaves.{Ending}
-use Rattle.s66_cert.specs.Documents.{SiblingsFit, TreeFits, siblings_placed, tree_placed}
+use Rattle.s66_model.specs.{children, Tree, Alone, Parted, Siblings, NoMore, Unsplit, Split, Vertex, AtTerminal, AtSplit, sibling_splits, splits, flat_siblings, flat, Ending}
+use Rattle.s66_cert.specs.{SiblingsFit, TreeFits, siblings_placed, tree_placed}
 
 -- a split puts its children in front of the prefixes that are still to come
 abbrev pub placed : List (Vertex Ending) → List (List ℕ) → List (List ℕ × Vertex Ending)

@@ -1,20 +1,14 @@
 -- What a prefix keeps, at first, after a push and after a pop.
-use Rattle.std.proofs.Common.{ℕ, ◌==◌, ◌||◌, ◌&&◌, not, eq-eqb, ne_eqb, ◌-◌, ◌≤◌, ◌<◌, ◌≡◌, true, false, List, [], ◌∷◌, ◌++◌, length, take, drop, get_or, map, reverse, refl, sym, subst, ap, arith, inl, inr, ◌∙◌}
+use Rattle.std.proofs.Common.{ℕ, ◌==◌, ◌||◌, ◌&&◌, not, eq-eqb, ne_eqb, ◌-◌, ◌≤◌, ◌<◌, ◌≡◌, true, false, List, [], ◌∷◌, ◌++◌, length, take, drop, get_or, map, reverse, refl, sym, subst, ap, arith}
+use Rattle.std.proofs.Common.{inl, inr, ◌∙◌, length-append}
 use Rattle.std.proofs.lemmas.Bool.{cases_eq, or_left}
-use Rattle.std.proofs.lemmas.List.{length-append, length-reverse, get_or_default, reverse-append}
-use Rattle.s66_isa.specs.declared.instr.Instr.{Instr}
-use Rattle.s66_isa.specs.Lists.{has}
-use Rattle.s66_isa.specs.declared.profile.Profile.{Profile}
-use Rattle.s66_isa.specs.Table.{Row, row}
-use Rattle.s66_isa.specs.declared.limits.TheConstants.{BLOCK_LIMIT}
-use Rattle.s66_model.specs.Timing.{Problem, Point, row_at, point, point_of, points_of, points_after}
-use Rattle.s66_model.specs.LegalOrder.{IsBeginning, is_ready}
+use Rattle.std.proofs.lemmas.List.{length-reverse, get_or_default, reverse-append}
+use Rattle.s66_isa.specs.{Instr, has, Profile, Row, row, BLOCK_LIMIT, numbers_in, Set}
+use Rattle.s66_model.specs.{Problem, Point, row_at, point, point_of, points_of, points_after, IsBeginning, is_ready}
 use Rattle.s66_model.proofs.LegalOrders.{ready-parts, has_push-same, has_push-other, GoesOn-append}
 use Rattle.s66_model.proofs.PointTimes.{points_after-append, points_after-length}
 use Rattle.s66_model.proofs.Remaining.{step-begins}
-use Rattle.s66_isa.specs.Members.{numbers_in}
-use Rattle.s66_isa.specs.declared.set.Set.{Set}
-use Rattle.s66_checker.specs.KeptPrefix.{with_profile, AreNeeds, AreTimed, IsPrefix}
+use Rattle.s66_checker.specs.{with_profile, AreNeeds, AreTimed, IsPrefix}
 use Rattle.s66_checker.proofs.Reversed.{reverse-last}
 use Rattle.s66_checker.proofs.ReadyByNeeds.{beginning-few}
 

@@ -1,17 +1,11 @@
 -- Readiness by what each number depends on.
-use Rattle.std.proofs.Common.{ℕ, ◌+◌, ◌≤◌, ◌≡◌, ◌≢◌, ◌↔◌, ◌==◌, Bool, IsTrue, true, false, ◌||◌, ◌&&◌, List, length, refl, sym, ap, arith, leb, eq-eqb, ne_eqb, inl, inr, ◌∙◌}
 use Rattle.std.specs.Cmp.{both_ways}
-use Rattle.std.proofs.lemmas.Bool.{and_from, and_left, and_right, or_left, cases_Bool, cases_eq, cases_lt, le-leb, lt-leb}
-use Rattle.std.proofs.lemmas.List.{length-append}
-use Rattle.s66_isa.specs.declared.instr.Instr.{Instr}
-use Rattle.s66_isa.specs.Lists.{has}
-use Rattle.s66_isa.specs.declared.limits.TheConstants.{BLOCK_LIMIT}
-use Rattle.s66_model.specs.Dependence.{depends}
-use Rattle.s66_model.specs.LegalOrder.{IsBeginning, needs_met}
+use Rattle.std.proofs.Common.{ℕ, ◌+◌, ◌≤◌, ◌≡◌, ◌≢◌, ◌↔◌, ◌==◌, Bool, IsTrue, true, false, ◌||◌, ◌&&◌, List, length, refl, sym, ap, arith, leb, eq-eqb, ne_eqb, inl, inr, ◌∙◌, le-leb, length-append}
+use Rattle.std.proofs.lemmas.Bool.{and_from, and_left, and_right, or_left, cases_Bool, cases_eq, cases_lt, lt-leb}
+use Rattle.s66_isa.specs.{Instr, has, BLOCK_LIMIT, numbers_in, Set}
+use Rattle.s66_model.specs.{depends, IsBeginning, needs_met}
 use Rattle.s66_model.proofs.LegalOrders.{needs-each, each-needs, depends-from, depends-lt}
 use Rattle.s66_model.proofs.Beginnings.{beginning-front}
-use Rattle.s66_isa.specs.Members.{numbers_in}
-use Rattle.s66_isa.specs.declared.set.Set.{Set}
 
 -- a beginning has no more numbers than its block
 pub beginning-few : (block : List Instr) (prefix : List ℕ) → IsBeginning block prefix → length prefix ≤ length block

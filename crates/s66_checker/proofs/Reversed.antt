@@ -1,8 +1,8 @@
 -- The greatest, a count or a sum of a list is that of the list turned around: points are kept oldest first, the model has the newest
 -- first.
-use Rattle.std.proofs.Common.{ℕ, ◌+◌, ◌-◌, ◌<◌, ◌≡◌, Bool, List, [], ◌∷◌, length, take, get_or, reverse, refl, sym, ap, arith, ◌∙◌}
-use Rattle.std.proofs.lemmas.List.{reverse-append, take_more, take_all}
-use Rattle.s66_isa.specs.Lists.{greatest, tally}
+use Rattle.std.proofs.Common.{ℕ, ◌+◌, ◌-◌, ◌<◌, ◌≡◌, Bool, List, [], ◌∷◌, length, take, get_or, reverse, refl, sym, ap, arith, ◌∙◌, take_all}
+use Rattle.std.proofs.lemmas.List.{reverse-append, take_more}
+use Rattle.s66_isa.specs.{greatest, tally}
 use Rattle.s66_isa.proofs.Lists.{greatest-append, tally-append}
 
 pub greatest-reverse : {X : Type 0} (f : X → ℕ) (xs : List X) → greatest f (reverse xs) ≡ greatest f xs

@@ -1,20 +1,14 @@
 -- The verdict on fact lines is yes exactly when each is taken after those before it, no supposition is left open, and what comes later is yes. Then they show what is known after them.
-use Rattle.std.proofs.Common.{ℕ, suc, ◌≡◌, ◌↔◌, true, false, true≢false, cond, List, [], ◌∷◌, Option, None, Some, refl, sym, ap, inl, inr}
-use Rattle.std.specs.Prelude.{is_some}
+use Rattle.std.proofs.Common.{ℕ, suc, ◌≡◌, ◌↔◌, true, false, true≢false, cond, List, [], ◌∷◌, Option, None, Some, refl, sym, ap, inl, inr, is_some}
 use Rattle.std.proofs.lemmas.Bool.{cases_Bool, and_parts}
 use Rattle.std.proofs.lemmas.Option.{none-some}
-use Rattle.s66_moments.specs.declared.fact_line.FactStep.{FactStep}
-use Rattle.s66_moments.specs.Facts.{Fact}
-use Rattle.s66_moments.specs.FactLines.{Line, AreFounded, facts_after}
-use Rattle.s66_moments.specs.Suppositions.{Supposition, Standing, standing_first, with_step, standing_after, is_step_taken, are_steps_taken, shown_by_all}
+use Rattle.s66_moments.specs.{FactStep, Fact, Line, AreFounded, facts_after, Supposition, Standing, standing_first, with_step, standing_after, is_step_taken, are_steps_taken, shown_by_all}
 use Rattle.s66_moments.proofs.KnownLines.{IsSound}
 use Rattle.s66_moments.proofs.SupposedLines.{after-stands, closed-sound}
-use Rattle.s66_cert.specs.Documents.{Document}
+use Rattle.s66_cert.specs.{Document}
 use Rattle.s66_checker.specs.declared.verdict.Verdict.{Verdict}
-use Rattle.s66_checker.specs.declared.verdict.Verdict.TheVariants.{Yes, No}
+use Rattle.s66_checker.specs.{Yes, No, problem_of, facts_of, standing_of, known_of, begun_by, facts_verdict, AreTaken}
 use Rattle.s66_checker.specs.declared.verdict.Reason.TheVariants as fault
-use Rattle.s66_checker.specs.Verdict.{problem_of, facts_of, standing_of, known_of, begun_by, facts_verdict}
-use Rattle.s66_checker.specs.KeptKnown.{AreTaken}
 
 closed-yes : (supposed : Option Supposition) (begun : ℕ) (later : Verdict) (time bound : ℕ) →
     (cond (is_some supposed) (No begun fault.Fact) later ≡ Yes time bound) ↔ ((supposed ≡ None) × (later ≡ Yes time bound))

@@ -1,16 +1,13 @@
 -- The lines of a tree are without fault exactly when each split has the ready numbers and each ending shows what it has to.
 use Rattle.std.proofs.Common.{ℕ, ◌≡◌, ◌↔◌, List, [], ◌∷◌, ◌++◌, None, refl, inl, inr}
-use Rattle.s66_isa.specs.Lists.{Among}
-use Rattle.s66_model.specs.Timing.{Problem}
-use Rattle.s66_model.specs.LegalOrder.{ready, IsBeginning}
-use Rattle.s66_model.specs.Trees.{Tree, Alone, Parted, Siblings, NoMore, Unsplit, Split, Vertex, AtTerminal, flat_siblings, flat, SiblingsHold, TreeHolds}
-use Rattle.s66_model.specs.DominatedLeaves.{Ending}
-use Rattle.s66_model.proofs.Remaining.{step-begins}
-use Rattle.s66_cert.specs.Documents.{Document, SiblingsFit, TreeFits, siblings_placed, tree_placed}
-use Rattle.s66_checker.specs.Verdict.{problem_of, line_fault}
-use Rattle.s66_checker.proofs.Faultless.{split-shows, ready-short}
-use Rattle.s66_model.proofs.AnswerBound.{AreReady, split-ready}
+use Rattle.s66_isa.specs.{Among}
 use Rattle.s66_isa.proofs.Lists.{among-front, among-rest}
+use Rattle.s66_model.specs.{Problem, ready, IsBeginning, Tree, Alone, Parted, Siblings, NoMore, Unsplit, Split, Vertex, AtTerminal, flat_siblings, flat, SiblingsHold, TreeHolds, Ending}
+use Rattle.s66_model.proofs.Remaining.{step-begins}
+use Rattle.s66_model.proofs.AnswerBound.{AreReady, split-ready}
+use Rattle.s66_cert.specs.{Document, SiblingsFit, TreeFits, siblings_placed, tree_placed}
+use Rattle.s66_checker.specs.{problem_of, line_fault}
+use Rattle.s66_checker.proofs.Faultless.{split-shows, ready-short}
 
 module _ (d : Document) where
   abbrev b : Problem

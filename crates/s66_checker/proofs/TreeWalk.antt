@@ -1,25 +1,14 @@
 -- The prefixes to which `go_on` and `advance` take the checker are those of the lines of the tree, in turn.
 use Rattle.std.proofs.Common.{ℕ, suc, ◌+◌, ◌*◌, ◌≤◌, ◌≡◌, ◌⊎◌, Bool, true, List, [], ◌∷◌, ◌++◌, length, Option, None, Some, slice_get, refl, sym, ap, ◌∙◌, subst, inl, inr, arith}
 use Rattle.std.proofs.lemmas.List.{length-map}
-use Rattle.s66_isa.specs.declared.instr.Instr.{Instr}
-use Rattle.s66_isa.specs.Lists.{Among}
-use Rattle.s66_model.specs.Timing.{Problem}
-use Rattle.s66_model.specs.LegalOrder.{is_ready, ready}
-use Rattle.s66_model.specs.Later.{IsNextReady, children, coming, later}
-use Rattle.s66_model.specs.Trees.{Vertex, AtTerminal, AtSplit}
-use Rattle.s66_model.specs.DominatedLeaves.{Ending}
+use Rattle.s66_isa.specs.{Instr, Among, BLOCK_LIMIT}
+use Rattle.s66_model.specs.{Problem, is_ready, ready, IsNextReady, children, coming, later, Vertex, AtTerminal, AtSplit, Ending}
 use Rattle.s66_model.proofs.Later.{replaced, dropped, split-first}
 use Rattle.s66_model.proofs.Remaining.{ready-among}
-use Rattle.s66_cert.specs.Documents.{Document, tree_placed}
-use Rattle.s66_cert.specs.DocumentParts.{Parts, AreWhole, document_of}
-use Rattle.s66_cert.specs.declared.limits.TheConstants.{SPLIT_LIMIT, FACT_LIMIT}
-use Rattle.s66_isa.specs.declared.limits.TheConstants.{BLOCK_LIMIT}
+use Rattle.s66_line.specs.{instr_in_text}
+use Rattle.s66_cert.specs.{Document, tree_placed, Parts, AreWhole, document_of, SPLIT_LIMIT, FACT_LIMIT}
 use Rattle.s66_checker.specs.Checked.{Checked}
-use Rattle.s66_checker.specs.declared.verdict.Verdict.TheVariants.{Yes, No}
-use Rattle.s66_checker.specs.declared.verdict.Reason.{Reason}
-use Rattle.s66_line.specs.InstructionText.{instr_in_text}
-use Rattle.s66_checker.specs.Verdict.{problem_of, facts_of, line_fault, lines_verdict, tree_line_number}
-use Rattle.s66_checker.specs.Walk.{coming_after, HasReady}
+use Rattle.s66_checker.specs.{Yes, No, Reason, problem_of, facts_of, line_fault, lines_verdict, tree_line_number, coming_after, HasReady}
 use Rattle.s66_checker.proofs.Faultless.{split-shows}
 use Rattle.s66_checker.proofs.Placed.{placed, none-placed, tree-placed, few-lines}
 

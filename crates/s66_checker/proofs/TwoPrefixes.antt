@@ -1,19 +1,9 @@
 -- What two prefixes store decides whether one dominates the other.
-use Rattle.std.proofs.Common.{ℕ, ◌≤◌, ◌<◌, ◌≡◌, ◌↔◌, ◌∙◌, Bool, IsTrue, true, false, List, length, reverse, refl, sym, ap}
-use Rattle.std.proofs.lemmas.Bool.{le-leb, lt-leb}
-use Rattle.s66_isa.specs.declared.instr.Instr.{Instr}
-use Rattle.s66_isa.specs.declared.limits.TheConstants.{BLOCK_LIMIT}
-use Rattle.s66_isa.specs.declared.profile.Profile.{Profile}
-use Rattle.s66_isa.specs.Lists.{has}
-use Rattle.s66_isa.specs.Table.{Row}
-use Rattle.s66_model.specs.declared.rule.Rule.TheVariants.{WrittenEarlier, ClampedStanding}
-use Rattle.s66_model.specs.Timing.{Problem, Point, points_of, next, total_of}
-use Rattle.s66_model.specs.LegalOrder.{IsBeginning}
-use Rattle.s66_model.specs.Dominance.{Clamp, no_clamp, clamp_at}
-use Rattle.s66_isa.specs.Members.{numbers_in}
-use Rattle.s66_isa.specs.declared.set.Set.{Set}
-use Rattle.s66_checker.specs.Dominating.{is_no_later, is_same_set, dominates_by}
-use Rattle.s66_checker.specs.KeptPrefix.{IsPrefix}
+use Rattle.std.proofs.Common.{ℕ, ◌≤◌, ◌<◌, ◌≡◌, ◌↔◌, ◌∙◌, Bool, IsTrue, true, false, List, length, reverse, refl, sym, ap, le-leb}
+use Rattle.std.proofs.lemmas.Bool.{lt-leb}
+use Rattle.s66_isa.specs.{Instr, BLOCK_LIMIT, Profile, has, Row, numbers_in, Set}
+use Rattle.s66_model.specs.{WrittenEarlier, ClampedStanding, Problem, Point, points_of, next, total_of, IsBeginning, Clamp, no_clamp, clamp_at}
+use Rattle.s66_checker.specs.{is_no_later, is_same_set, dominates_by, IsPrefix}
 use Rattle.s66_checker.proofs.AheadOf.{set-stated, ahead-is, written-late, written-is}
 
 -- what a prefix keeps of its numbers

@@ -3,17 +3,9 @@ use Rattle.std.proofs.Common.{ℕ, ◌+◌, ◌≤◌, ◌<◌, ◌≡◌, ◌�
 use Rattle.std.proofs.lemmas.Bool.{cases_eq}
 use Rattle.std.proofs.lemmas.Bool.Decides.{Decides-like, same_from_decides}
 use Rattle.std.proofs.lemmas.List.{at_drop_more}
-use Rattle.s66_isa.specs.declared.instr.Kind.{Kind}
-use Rattle.s66_isa.specs.declared.instr.Kind.TheVariants.{Boolean}
-use Rattle.s66_isa.specs.declared.profile.Profile.{Profile}
-use Rattle.s66_isa.specs.Lists.{every, tally}
-use Rattle.s66_isa.specs.Table.{kind_number, copies_of, all_kinds}
-use Rattle.s66_model.specs.Timing.{Point, busy_at}
-use Rattle.s66_model.specs.Dominance.{free_times}
-use Rattle.s66_checker.specs.PastWords.{AreFree, never_busy, AreWords}
-use Rattle.s66_checker.specs.declared.replay.words.FreeTimes.{FreeTimes}
-use Rattle.s66_checker.specs.declared.replay.words.Words.{Words}
-use Rattle.s66_checker.specs.Dominating.{are_places_no_later}
+use Rattle.s66_isa.specs.{Kind, Boolean, Profile, every, tally, kind_number, copies_of, all_kinds}
+use Rattle.s66_model.specs.{Point, busy_at, free_times}
+use Rattle.s66_checker.specs.{AreFree, never_busy, AreWords, FreeTimes, Words, are_places_no_later}
 use Rattle.s66_checker.proofs.FreeUnits.{first-time, second-time}
 use Rattle.s66_checker.proofs.NoLater.{le-Decides, places-Decides}
 

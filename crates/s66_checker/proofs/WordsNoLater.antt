@@ -1,24 +1,16 @@
 -- What the words of pasts say of the tests of dominance.
-use Rattle.std.proofs.Common.{ℕ, ◌+◌, ◌≤◌, ◌<◌, ◌≡◌, ◌==◌, ◌↔◌, Bool, IsTrue, true, false, cond, max, List, get_or, reverse, sym, ap, subst, ◌∙◌, arith, leb}
-use Rattle.std.proofs.lemmas.Bool.{le-leb, lt-leb, eq-eqb}
+use Rattle.std.proofs.Common.{ℕ, ◌+◌, ◌≤◌, ◌<◌, ◌≡◌, ◌==◌, ◌↔◌, Bool, IsTrue, true, false, cond, max, List, get_or, reverse, sym, ap, subst, ◌∙◌, arith, leb, le-leb, eq-eqb}
+use Rattle.std.proofs.lemmas.Bool.{lt-leb}
 use Rattle.std.proofs.lemmas.Bool.Decides.{Decides-like, same_from_decides}
 use Rattle.s66_isa.specs.declared.instr.Memory.TheVariants as memory
-use Rattle.s66_isa.specs.declared.profile.Profile.{Profile}
-use Rattle.s66_isa.specs.declared.reg.Reg.{Reg}
-use Rattle.s66_isa.specs.Registers.{index_of, register_at, word_of}
-use Rattle.s66_isa.specs.RegisterIndices.{register_at-index}
-use Rattle.s66_isa.specs.Table.{has_reg, memory_pair, touches, stores}
+use Rattle.s66_isa.specs.{Profile, Reg, index_of, register_at, word_of, register_at-index, has_reg, memory_pair, touches, stores}
 use Rattle.s66_isa.proofs.Lists.{greatest-same}
 use Rattle.s66_isa.proofs.RegisterBits.{index-few, register_at-digit}
-use Rattle.s66_model.specs.Timing.{Point, next, done_at, done_of, readers_wait}
-use Rattle.s66_model.specs.Dominance.{place_in_word, references_wait, stores_wait, Clamp}
-use Rattle.s66_checker.specs.PastWords.{AreWords}
-use Rattle.s66_checker.specs.declared.replay.words.Words.{Words}
-use Rattle.s66_checker.specs.Dominating.{are_registers_no_later, are_units_no_later, is_no_later}
+use Rattle.s66_model.specs.{Point, next, done_at, done_of, readers_wait, place_in_word, references_wait, stores_wait, Clamp}
+use Rattle.s66_model.proofs.PushedBoth.{pair-store, pair-load}
+use Rattle.s66_checker.specs.{AreWords, Words, are_registers_no_later, are_units_no_later, is_no_later}
 use Rattle.s66_checker.proofs.NoLater.{registers-Decides, third-fails, fourth-fails, fifth-fails, sixth-fails, last-left}
 use Rattle.s66_checker.proofs.Reversed.{greatest-reverse}
-use Rattle.s66_model.proofs.PushedBoth.{pair-store}
-use Rattle.s66_model.proofs.PushedBoth.{pair-load}
 
 -- REGISTERS
 

@@ -1,24 +1,17 @@
 -- What the words of a past are, point by point.
-use Rattle.std.proofs.Common.{ℕ, ◌+◌, ◌-◌, ◌≤◌, ◌<◌, ◌≡◌, ◌≢◌, false, true≢false, ◌||◌, ◌&&◌, cond, max, min, List, [], ◌∷◌, ◌++◌, length, drop, take, replicate, get_or, set, refl, sym, ap, subst, arith, inl, inr, ltb, ◌∙◌}
-use Rattle.std.proofs.lemmas.Bool.{cases_Bool, cases_lt, lt-ltb, le-ltb, eqb-true, eq-eqb}
-use Rattle.std.proofs.lemmas.List.{get_or-set_same, get_or-set_other, get_or-replicate, get_or_append_left, get_or-append_right, at_drop_more, length-append, take-append-le, take_all}
-use Rattle.s66_isa.specs.Lists.{greatest, tally}
-use Rattle.s66_isa.specs.declared.instr.TheConstants.{KIND_COUNT}
-use Rattle.s66_isa.specs.declared.instr.Kind.{Kind}
-use Rattle.s66_isa.specs.declared.instr.Kind.TheVariants.{Boolean, Shift, Add, LongAdd, Multiply, Divide, Increment}
+use Rattle.std.proofs.Common.{ℕ, ◌+◌, ◌-◌, ◌≤◌, ◌<◌, ◌≡◌, ◌≢◌, false, true≢false, ◌||◌, ◌&&◌, cond, max, min, List, [], ◌∷◌, ◌++◌, length, drop, take, replicate, get_or, set, refl, sym, ap, subst}
+use Rattle.std.proofs.Common.{arith, inl, inr, ltb, ◌∙◌, lt-ltb, le-ltb, eqb-true, eq-eqb, get_or-set_same, get_or-set_other, length-append, take_all}
+use Rattle.std.proofs.lemmas.Bool.{cases_Bool, cases_lt}
+use Rattle.std.proofs.lemmas.List.{get_or-replicate, get_or_append_left, get_or-append_right, at_drop_more, take-append-le}
+use Rattle.s66_isa.specs.{greatest, tally, KIND_COUNT, Kind, Boolean, Shift, Add, LongAdd, Multiply, Divide, Increment, Reg, REGISTER_COUNT, index_of, word_of, same_reg, has_reg, same_kind}
+use Rattle.s66_isa.specs.{kind_number, memory_pair}
 use Rattle.s66_isa.specs.declared.instr.Memory.TheVariants as memory
-use Rattle.s66_isa.specs.declared.reg.Reg.{Reg}
-use Rattle.s66_isa.specs.declared.reg.TheConstants.{REGISTER_COUNT}
-use Rattle.s66_isa.specs.Registers.{index_of, word_of}
-use Rattle.s66_isa.specs.Table.{same_reg, has_reg, same_kind, kind_number, memory_pair}
 use Rattle.s66_isa.proofs.Lists.{greatest-append, tally-append}
 use Rattle.s66_isa.proofs.RegisterBits.{index-few, raised-twice}
 use Rattle.s66_isa.proofs.SameRegister.{same_reg-sym}
-use Rattle.s66_model.specs.Timing.{Point, ResultAt, busy_at, done_at, end_of}
-use Rattle.s66_checker.specs.PastWords.{AreFree, never_busy, AreWords, ArePast}
-use Rattle.s66_checker.specs.declared.replay.words.Words.{Words}
-use Rattle.s66_checker.specs.declared.replay.words.FreeTimes.{FreeTimes}
+use Rattle.s66_model.specs.{Point, ResultAt, busy_at, done_at, end_of}
 use Rattle.s66_model.proofs.PushedBoth.{pair-none}
+use Rattle.s66_checker.specs.{AreFree, never_busy, AreWords, ArePast, Words, FreeTimes}
 
 -- REGISTERS
 

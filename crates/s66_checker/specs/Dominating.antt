@@ -1,17 +1,9 @@
 -- To be believed: when one beginning dominates another of the same set, as tests that can be computed: as written, clamped, and in use.
 use Rattle.std.specs.Prelude.{ℕ, ◌+◌, ◌==◌, ◌&&◌, ◌||◌, Bool, true, false, max, List, [], ◌∷◌, ◌++◌, get_or, nat_le, nat_lt}
-use Rattle.s66_isa.specs.declared.instr.Instr.{Instr}
-use Rattle.s66_isa.specs.declared.profile.Profile.{Profile}
-use Rattle.s66_isa.specs.declared.reg.Reg.{Reg}
-use Rattle.s66_isa.specs.Lists.{every, has, rising}
-use Rattle.s66_isa.specs.Registers.{all_registers}
-use Rattle.s66_isa.specs.Table.{Row, Write, copies_of, all_kinds}
-use Rattle.s66_model.specs.declared.rule.Rule.{Rule}
-use Rattle.s66_model.specs.declared.rule.Rule.TheVariants.{NoneNamed, WrittenEarlier, ClampedStanding}
-use Rattle.s66_model.specs.Timing.{Problem, Point, row_at, copies, points_of, next, done_of, memory_wait, readers_wait, total_of}
-use Rattle.s66_model.specs.LegalOrder.{is_ready, remaining}
-use Rattle.s66_model.specs.Dominance.{place_in_word, references_wait, stores_wait, free_times, Clamp, no_clamp, clamp_at}
-use Rattle.s66_moments.specs.KnownFacts.{Known, issue_at_least, start_at_least}
+use Rattle.s66_isa.specs.{Instr, Profile, Reg, every, has, rising, all_registers, Row, Write, copies_of, all_kinds}
+use Rattle.s66_model.specs.{Rule, NoneNamed, WrittenEarlier, ClampedStanding, Problem, Point, row_at, copies, points_of, next, done_of, memory_wait, readers_wait, total_of, is_ready, remaining}
+use Rattle.s66_model.specs.{place_in_word, references_wait, stores_wait, free_times, Clamp, no_clamp, clamp_at}
+use Rattle.s66_moments.specs.{Known, issue_at_least, start_at_least}
 
 -- each of these numbers is ready when it comes after the prefix
 abbrev pub is_beginning_after : List Instr → List ℕ → List ℕ → Bool

@@ -1,26 +1,11 @@
 -- Used by examples alone: worked documents with a part changed.
 use Rattle.std.specs.Prelude.{ℕ, List, [], ◌∷◌, Some, None, map, codes}
-use Rattle.s66_isa.specs.declared.instr.Instr.{Instr}
-use Rattle.s66_isa.specs.declared.instr.Kind.TheVariants.{Boolean}
-use Rattle.s66_isa.specs.Profiles.{profile_of}
-use Rattle.s66_isa.specs.Table.{instr}
-use Rattle.s66_model.specs.Timing.{Problem}
-use Rattle.s66_model.specs.declared.rule.Rule.{Rule}
-use Rattle.s66_model.specs.declared.rule.Rule.TheVariants.{ClampedStanding}
-use Rattle.s66_model.specs.Leaves.{Leaf, Whole, Chain, Load, Parcels}
-use Rattle.s66_model.specs.Trees.{Tree, Alone, Parted, Siblings, NoMore, Unsplit, Split}
-use Rattle.s66_model.specs.DominatedLeaves.{Ending, Bounding, Dominated, Factual}
-use Rattle.s66_model.specs.FactLeaves.{FactLeaf, Next, Turned, AtLine, LoadFrom}
-use Rattle.s66_model.specs.Examples.{late_reader_tree, increments_tree, increments_load}
-use Rattle.s66_moments.specs.declared.moment.Stage.TheVariants.{Issue}
-use Rattle.s66_moments.specs.declared.moment.Moment.TheVariants.{At, End}
-use Rattle.s66_moments.specs.declared.fact_line.FactLine.{FactLine}
-use Rattle.s66_moments.specs.declared.fact_line.FactLine.TheVariants.{Pair}
-use Rattle.s66_moments.specs.declared.fact_line.FactStep.{FactStep}
+use Rattle.s66_isa.specs.{Instr, Boolean, profile_of, instr}
+use Rattle.s66_model.specs.{Problem, Rule, ClampedStanding, Leaf, Whole, Chain, Load, Parcels, Tree, Alone, Parted, Siblings, NoMore, Unsplit, Split, Ending, Bounding, Dominated, Factual, FactLeaf}
+use Rattle.s66_model.specs.{Next, Turned, AtLine, LoadFrom, late_reader_tree, increments_tree, increments_load}
+use Rattle.s66_moments.specs.{Issue, At, End, FactLine, Pair, FactStep, load_fact}
 use Rattle.s66_moments.specs.declared.fact_line.FactStep.TheVariants.{Fact}
-use Rattle.s66_moments.specs.Examples.{load_fact}
-use Rattle.s66_cert.specs.Documents.{Document}
-use Rattle.s66_cert.specs.Examples.{standard_numbers, one_load, three_multiplies, after_one, late_reader}
+use Rattle.s66_cert.specs.{Document, standard_numbers, one_load, three_multiplies, after_one, late_reader}
 
 -- ONE LOAD WITH MORE THAN ONE FAULT
 

@@ -1,18 +1,10 @@
 -- Used by contracts within the crate alone: what is known after fact lines, and how they are refused.
 use Rattle.std.specs.Prelude.{ℕ, ◌≡◌, ◌+◌, ◌||◌, Bool, true, false, Option, None, Some, List, [], ◌∷◌, nat_le}
-use Rattle.s66_isa.specs.Table.{Write}
-use Rattle.s66_model.specs.Timing.{Point, done_at}
-use Rattle.s66_moments.specs.declared.moment.Moment.{Moment}
-use Rattle.s66_moments.specs.declared.moment.Moment.TheVariants.{End}
-use Rattle.s66_moments.specs.Facts.{IsNumber}
-use Rattle.s66_moments.specs.Moments.{is_moment}
-use Rattle.s66_moments.specs.Networks.{tail}
-use Rattle.s66_moments.specs.KnownFacts.{span, arcs_of}
-use Rattle.s66_moments.specs.Suppositions.{standing_first, are_steps_taken}
-use Rattle.s66_cert.specs.Documents.{Document}
-use Rattle.s66_facts.specs.declared.times.Times.{Times}
-use Rattle.s66_facts.specs.Passes.{AreTimes, times_at}
-use Rattle.s66_facts.specs.BlockGround.{Ground, known_of as known_in}
+use Rattle.s66_isa.specs.{Write}
+use Rattle.s66_model.specs.{Point, done_at}
+use Rattle.s66_moments.specs.{Moment, End, IsNumber, is_moment, tail, span, arcs_of, standing_first, are_steps_taken}
+use Rattle.s66_facts.specs.{Times, AreTimes, times_at, Ground, known_of as known_in}
+use Rattle.s66_cert.specs.{Document}
 use Rattle.s66_checker.specs.declared.verdict.Verdict.{Verdict}
 use Rattle.s66_checker.specs.declared.verdict.Verdict.TheVariants.{No}
 use Rattle.s66_checker.specs.declared.verdict.Reason.TheVariants as fault

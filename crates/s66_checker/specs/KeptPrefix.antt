@@ -1,15 +1,7 @@
 -- Used by contracts: what is kept of the beginning of an order.
 use Rattle.std.specs.Prelude.{ℕ, ◌+◌, ◌*◌, ◌≡◌, ◌≤◌, ◌<◌, List, [], length, get_or, map, reverse}
-use Rattle.s66_isa.specs.declared.instr.Instr.{Instr}
-use Rattle.s66_isa.specs.declared.profile.Profile.{Profile}
-use Rattle.s66_isa.specs.Lists.{has}
-use Rattle.s66_isa.specs.Table.{Row, row}
-use Rattle.s66_model.specs.Timing.{Problem, Point, points_of}
-use Rattle.s66_model.specs.Dependence.{depends}
-use Rattle.s66_model.specs.LegalOrder.{IsBeginning}
-use Rattle.s66_isa.specs.declared.limits.TheConstants.{BLOCK_LIMIT}
-use Rattle.s66_isa.specs.Members.{numbers_in}
-use Rattle.s66_isa.specs.declared.set.Set.{Set}
+use Rattle.s66_isa.specs.{Instr, Profile, has, Row, row, BLOCK_LIMIT, numbers_in, Set}
+use Rattle.s66_model.specs.{Problem, Point, points_of, depends, IsBeginning}
 
 -- the most minor cycles that an order of a block takes: each instruction adds at most 104
 abbrev pub TOTAL_LIMIT : ℕ

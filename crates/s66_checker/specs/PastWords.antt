@@ -1,11 +1,9 @@
 -- Used by contracts within the crate alone: what the words of a past are, by its points, the oldest first.
 use Rattle.std.specs.Prelude.{ℕ, ◌+◌, ◌≡◌, ◌≤◌, ◌<◌, if◌then◌else◌, List, length, take, get_or}
-use Rattle.s66_isa.specs.declared.instr.Kind.{Kind}
+use Rattle.s66_isa.specs.{Kind, greatest, tally, word_of, kind_number, memory_pair}
 use Rattle.s66_isa.specs.declared.instr.Memory.TheVariants as memory
-use Rattle.s66_isa.specs.Lists.{greatest, tally}
-use Rattle.s66_isa.specs.Registers.{word_of}
-use Rattle.s66_isa.specs.Table.{Reg, kind_number, memory_pair}
-use Rattle.s66_model.specs.Timing.{Point, busy_at, done_of, readers_wait, total}
+use Rattle.s66_isa.specs.Table.{Reg}
+use Rattle.s66_model.specs.{Point, busy_at, done_of, readers_wait, total}
 use Rattle.s66_checker.specs.declared.replay.words.FreeTimes.{FreeTimes}
 use Rattle.s66_checker.specs.declared.replay.words.Words.{Words}
 

@@ -1,17 +1,8 @@
 -- To be believed: when what a document claims is true.
 use Rattle.std.specs.Prelude.{◌≡◌, ◌≤◌, List, [], ◌∷◌, Option, None, Some}
-use Rattle.s66_model.specs.declared.rule.Rule.TheVariants.{ClampedStanding}
-use Rattle.s66_model.specs.Timing.{total_of}
-use Rattle.s66_model.specs.LegalOrder.{IsLegal}
-use Rattle.s66_model.specs.Trees.{Tree}
-use Rattle.s66_model.specs.Stated.{tree_seen}
-use Rattle.s66_model.specs.DominatedLeaves.{Ending, Bounding, Dominated, Factual, ShowsBy}
-use Rattle.s66_model.specs.FactLeaves.{Next, Turned, AtLine, LoadFrom}
-use Rattle.s66_moments.specs.declared.fact_line.FactStep.{FactStep}
-use Rattle.s66_moments.specs.KnownFacts.{load_of}
-use Rattle.s66_moments.specs.Suppositions.{standing_first, shown_by_all}
-use Rattle.s66_moments.specs.LineTrees.{LineEnding, AtLeaf, AtLines, DominatedBy, ShowsByLines}
-use Rattle.s66_cert.specs.Documents.{Document}
+use Rattle.s66_model.specs.{ClampedStanding, total_of, IsLegal, Tree, tree_seen, Ending, Bounding, Dominated, Factual, ShowsBy, Next, Turned, AtLine, LoadFrom}
+use Rattle.s66_moments.specs.{FactStep, load_of, standing_first, shown_by_all, LineEnding, AtLeaf, AtLines, DominatedBy, ShowsByLines}
+use Rattle.s66_cert.specs.{Document}
 use Rattle.s66_checker.specs.Verdict.{problem_of, node_on, name_of}
 
 -- WITH FACT LINES

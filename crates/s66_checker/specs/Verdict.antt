@@ -1,22 +1,12 @@
 -- To be believed: the verdict on a document: yes, or its first fault.
 use Rattle.std.specs.Prelude.{ℕ, suc, ◌+◌, ◌-◌, ◌==◌, ◌&&◌, if◌then◌else◌, Bool, true, false, not, List, [], ◌∷◌, Option, None, Some, length, map, nat_le, nat_lt, slice_get, unwrap_or, is_some}
-use Rattle.std.specs.Str.{bytes_eq}
-use Rattle.s66_isa.specs.declared.instr.Instr.{Instr}
-use Rattle.s66_isa.specs.Profiles.{profile_of}
-use Rattle.s66_line.specs.InstructionText.{instr_in_text}
-use Rattle.s66_model.specs.declared.rule.Rule.{Rule}
-use Rattle.s66_model.specs.declared.rule.Rule.TheVariants.{NoneNamed, WrittenEarlier, ClampedStanding}
-use Rattle.s66_model.specs.Timing.{Problem, total_of}
-use Rattle.s66_model.specs.LegalOrder.{is_remaining, ready}
-use Rattle.s66_model.specs.Leaves.{Leaf, Whole, Chain, Load, Parcels, value, is_linked}
-use Rattle.s66_model.specs.Trees.{Vertex, AtTerminal, AtSplit}
-use Rattle.s66_model.specs.NodeNames.{node_named}
-use Rattle.s66_model.specs.DominatedLeaves.{Ending, Bounding, Dominated, Factual, is_standing, may_be_named}
-use Rattle.s66_model.specs.FactLeaves.{Next, Turned, AtLine, LoadFrom}
-use Rattle.s66_moments.specs.declared.fact_line.FactStep.{FactStep}
-use Rattle.s66_moments.specs.KnownFacts.{Known, next_value, is_turned, is_loaded}
-use Rattle.s66_moments.specs.Suppositions.{Standing, begins, standing_first, with_step, standing_after, is_step_taken}
-use Rattle.s66_cert.specs.Documents.{Document, tree_placed}
+use Rattle.std.specs.Prelude.{bytes_eq}
+use Rattle.s66_isa.specs.{Instr, profile_of}
+use Rattle.s66_model.specs.{Rule, NoneNamed, WrittenEarlier, ClampedStanding, Problem, total_of, is_remaining, ready, Leaf, Whole, Chain, Load, Parcels, value, is_linked, Vertex, AtTerminal, AtSplit}
+use Rattle.s66_model.specs.{node_named, Ending, Bounding, Dominated, Factual, is_standing, may_be_named, Next, Turned, AtLine, LoadFrom}
+use Rattle.s66_moments.specs.{FactStep, Known, next_value, is_turned, is_loaded, Standing, begins, standing_first, with_step, standing_after, is_step_taken}
+use Rattle.s66_line.specs.{instr_in_text}
+use Rattle.s66_cert.specs.{Document, tree_placed}
 use Rattle.s66_checker.specs.declared.verdict.Verdict.{Verdict}
 use Rattle.s66_checker.specs.declared.verdict.Verdict.TheVariants.{Yes, No}
 use Rattle.s66_checker.specs.declared.verdict.Reason.{Reason}

@@ -1,10 +1,7 @@
 -- Used by contracts: what a walk over the lines of a tree reaches after a line, each prefix split into all its ready numbers.
 use Rattle.std.specs.Prelude.{◌≡◌, ℕ, List, [], ◌++◌}
-use Rattle.s66_isa.specs.declared.instr.Instr.{Instr}
-use Rattle.s66_model.specs.LegalOrder.{ready}
-use Rattle.s66_model.specs.Later.{children, later}
-use Rattle.s66_model.specs.Trees.{Vertex, AtTerminal, AtSplit}
-use Rattle.s66_model.specs.DominatedLeaves.{Ending}
+use Rattle.s66_isa.specs.{Instr}
+use Rattle.s66_model.specs.{ready, children, later, Vertex, AtTerminal, AtSplit, Ending}
 
 -- what is to come after a line at this prefix
 abbrev pub coming_after : List Instr → List ℕ → Vertex Ending → List (List ℕ)

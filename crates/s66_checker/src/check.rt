@@ -1,15 +1,11 @@
 //! The verdict on a document (`verify`): the order and its time, then the fact lines, then the tree.
 
 ghost use Rattle.std.specs.Prelude.{ℕ, ◌≡◌, ◌≤◌, [], Some, None, if◌then◌else◌, length, map};
-ghost use Rattle.s66_isa.specs.Profiles.{profile_of};
-ghost use Rattle.s66_isa.specs.declared.limits.TheConstants.{BLOCK_LIMIT};
-ghost use Rattle.s66_model.specs.Timing.{total_of};
-ghost use Rattle.s66_model.specs.BestAndBound.{IsBound};
-ghost use Rattle.s66_cert.specs.DocumentParts.{document_of};
-ghost use Rattle.s66_line.specs.InstructionText.{instr_in_text};
-ghost use Rattle.s66_checker.specs.Verdict.{is_legal_order, problem_of, proof_verdict, verdict};
-ghost use Rattle.s66_checker.specs.TrueClaims.{IsTrueClaim};
-ghost use Rattle.s66_checker.specs.declared.verdict.Verdict.TheVariants.{Yes};
+ghost use Rattle.s66_isa.specs.{profile_of, BLOCK_LIMIT};
+ghost use Rattle.s66_model.specs.{total_of, IsBound};
+ghost use Rattle.s66_line.specs.{instr_in_text};
+ghost use Rattle.s66_cert.specs.{document_of};
+ghost use Rattle.s66_checker.specs.{is_legal_order, problem_of, proof_verdict, verdict, IsTrueClaim, Yes};
 
 use crate::known::Known;
 use crate::replay::Prefix;

@@ -3,25 +3,20 @@
 #![tactic(auto, unfolding(s66_isa::specs::Table::row, s66_isa::specs::Profiles::profile_of, s66_model::specs::Dependence::conflict, s66_model::specs::Timing::issue_of, s66_model::specs::Timing::start_of, s66_model::specs::Timing::point))]
 
 ghost use Rattle.std.specs.Prelude.{[], ◌∷◌, ◌++◌, ◌≡◌, true, false};
-ghost use Rattle.s66_isa.specs.declared.instr.Kind.TheVariants.{Boolean, Multiply};
-ghost use Rattle.s66_model.specs.declared.rule.Rule.TheVariants.{NoneNamed, WrittenEarlier, ClampedStanding};
-ghost use Rattle.s66_model.specs.Examples.{standard_problem, late_reader, three_increments, packing_gap, two_gaps, booleans_and_sets, late_result, later_gap, fourth_bounding, fourth_split, increments_tree, increments_load};
-ghost use Rattle.s66_model.specs.Leaves.{Whole, Chain, Load, Parcels};
-ghost use Rattle.s66_model.specs.Trees.{Alone, Parted, NoMore, Unsplit, Split};
-ghost use Rattle.s66_model.specs.DominatedLeaves.{Bounding, Dominated, Factual};
-ghost use Rattle.s66_model.specs.FactLeaves.{Next, Turned, AtLine, LoadFrom};
-ghost use Rattle.s66_moments.specs.declared.fact_line.FactLine.TheVariants.{Pair};
+ghost use Rattle.s66_isa.specs.{Boolean, Multiply};
+ghost use Rattle.s66_model.specs.{NoneNamed, WrittenEarlier, ClampedStanding, standard_problem, late_reader, three_increments, packing_gap, two_gaps, booleans_and_sets, late_result, later_gap};
+ghost use Rattle.s66_model.specs.{fourth_bounding, fourth_split, increments_tree, increments_load, Whole, Chain, Load, Parcels, Alone, Parted, NoMore, Unsplit, Split, Bounding, Dominated, Factual};
+ghost use Rattle.s66_model.specs.{Next, Turned, AtLine, LoadFrom};
+ghost use Rattle.s66_moments.specs.{Pair, is_loaded, known_of};
 ghost use Rattle.s66_moments.specs.declared.fact_line.FactStep.TheVariants.{Fact, Suppose, Refuted};
 ghost use Rattle.s66_moments.specs.Examples as in_use;
-ghost use Rattle.s66_moments.specs.KnownFacts.{is_loaded};
-ghost use Rattle.s66_moments.specs.Examples.{known_of};
 ghost use Rattle.s66_cert.specs.Examples as examples;
-ghost use Rattle.s66_cert.specs.Examples.{after_one, with_times, with_order, with_chain, with_tree, with_name};
-ghost use Rattle.s66_checker.specs.declared.verdict.Verdict.TheVariants.{Yes, No};
+ghost use Rattle.s66_cert.specs.{after_one, with_times, with_order, with_chain, with_tree, with_name};
+ghost use Rattle.s66_checker.specs.{Yes, No, verdict, dominates_by, dominates_in_use, refused_order, slow_one_load, multiplies_at_once, load_and_multiplies, multiplies_split, second_line, third_line};
+ghost use Rattle.s66_checker.specs.{last_leaf, late_naming, late_order, late_misplaced, increments, four_increments, three_sums, two_sums, first_of_two, after_pair, at_the_end, booleans_between};
+ghost use Rattle.s66_checker.specs.{increments_named, booleans_left, one_is_added, waits_for_the_product, before_their_writers, multiplies_left, booleans_named, waits_for_the_unit, waits_for_x1};
+ghost use Rattle.s66_checker.specs.{two_parcels_beside, three_adds};
 ghost use Rattle.s66_checker.specs.declared.verdict.Reason.TheVariants as fault;
-ghost use Rattle.s66_checker.specs.Verdict.{verdict};
-ghost use Rattle.s66_checker.specs.Dominating.{dominates_by, dominates_in_use};
-ghost use Rattle.s66_checker.specs.Examples.{refused_order, slow_one_load, multiplies_at_once, load_and_multiplies, multiplies_split, second_line, third_line, last_leaf, late_naming, late_order, late_misplaced, increments, four_increments, three_sums, two_sums, first_of_two, after_pair, at_the_end, booleans_between, increments_named, booleans_left, one_is_added, waits_for_the_product, before_their_writers, multiplies_left, booleans_named, waits_for_the_unit, waits_for_x1, two_parcels_beside, three_adds};
 
 /// Verdicts on the worked documents: a leaf of each kind, and whole orders alone.
 pub fn verdict_examples()

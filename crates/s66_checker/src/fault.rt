@@ -1,18 +1,12 @@
 //! What is wrong with a line of a tree.
 //! There is a rule for each kind of line: for a split, and for each kind of leaf.
 
-ghost use Rattle.std.specs.Prelude.{◌≡◌, ◌≤◌, if◌then◌else◌, nat_lt, None, Some, length};
-ghost use Rattle.std.specs.Str.{bytes_eq};
-ghost use Rattle.s66_isa.specs.declared.limits.TheConstants.{BLOCK_LIMIT};
-ghost use Rattle.s66_model.specs.LegalOrder.{ready};
-ghost use Rattle.s66_model.specs.Leaves.{Whole, Chain, Load, Parcels};
+ghost use Rattle.std.specs.Prelude.{◌≡◌, ◌≤◌, if◌then◌else◌, nat_lt, None, Some, length, bytes_eq};
+ghost use Rattle.s66_isa.specs.{BLOCK_LIMIT};
+ghost use Rattle.s66_model.specs.{ready, Whole, Chain, Load, Parcels, AtTerminal, Factual, fact_leaf_of, vertex_of};
+ghost use Rattle.s66_cert.specs.{document_of};
 ghost use Rattle.s66_checker.specs.declared.verdict.Reason.TheVariants as fault;
-ghost use Rattle.s66_model.specs.Trees.{AtTerminal};
-ghost use Rattle.s66_model.specs.DominatedLeaves.{Factual};
-ghost use Rattle.s66_model.specs.Lines.{fact_leaf_of, vertex_of};
-ghost use Rattle.s66_cert.specs.DocumentParts.{document_of};
-ghost use Rattle.s66_checker.specs.KeptKnown.{KnowsAll};
-ghost use Rattle.s66_checker.specs.Verdict.{problem_of, is_complete, line_fault, leaf_fault, dominated_fault, at_line_fault, next_fault, turned_fault, load_from_fault};
+ghost use Rattle.s66_checker.specs.{KnowsAll, problem_of, is_complete, line_fault, leaf_fault, dominated_fault, at_line_fault, next_fault, turned_fault, load_from_fault};
 
 use crate::in_use::dominates_in_use;
 use crate::known::Known;

@@ -2,11 +2,10 @@
 //! the moment on at which the number could look at it at the soonest. All times are in minor cycles.
 
 ghost use Rattle.std.specs.Prelude.{ℕ, ◌≡◌, ◌≤◌, ◌*◌, ◌↔◌, IsTrue, true, if◌then◌else◌, length};
-ghost use Rattle.s66_isa.specs.declared.limits.TheConstants.{BLOCK_LIMIT};
-ghost use Rattle.s66_model.specs.Timing.{row_at};
-ghost use Rattle.s66_model.specs.LegalOrder.{is_remaining, sum_remaining};
-ghost use Rattle.s66_facts.specs.BlockGround.{known_of as known_in};
-ghost use Rattle.s66_checker.specs.Dominating.{number_finds_no_later, dominates_in_use};
+ghost use Rattle.s66_isa.specs.{BLOCK_LIMIT};
+ghost use Rattle.s66_model.specs.{row_at, is_remaining, sum_remaining};
+ghost use Rattle.s66_facts.specs.{known_of as known_in};
+ghost use Rattle.s66_checker.specs.{number_finds_no_later, dominates_in_use};
 
 use crate::known::Known;
 use crate::links::own_parcels;

@@ -1,14 +1,13 @@
 //! What is known after the fact lines of a document, by which further leaves close a prefix.
 //! The fact lines are taken in one after the other (`s66_facts`), and the longest paths to the end kept.
 
-ghost use Rattle.std.specs.Prelude.{◌≡◌, ◌≤◌, IfSome, IfNone, length};
-ghost use Rattle.s66_cert.specs.DocumentParts.{document_of};
-ghost use Rattle.s66_cert.specs.declared.limits.TheConstants.{FACT_LIMIT};
-ghost use Rattle.s66_moments.specs.Suppositions.{standing_first};
-ghost use Rattle.s66_facts.specs.BlockGround.{known_of as known_in};
-ghost use Rattle.s66_facts.specs.Supposing.{standing_in};
-ghost use Rattle.s66_checker.specs.Verdict.{problem_of, facts_of, begun_by};
-ghost use Rattle.s66_checker.specs.KeptKnown.{KnowsAll, AreTaken, IsUntaken, is_reached, is_result_late, is_point_late};
+ghost use Rattle.std.specs.Prelude.{◌≡◌, ◌≤◌, IfSome, IfNone, length, ◌&&◌, IfOk, IfErr, OnOk, Some, nat_le, true};
+ghost use Rattle.s66_isa.specs.{BLOCK_LIMIT};
+ghost use Rattle.s66_model.specs.{is_remaining};
+ghost use Rattle.s66_moments.specs.{standing_first, Issue, Start, At, tail, arcs_of, next_value, is_turned};
+ghost use Rattle.s66_facts.specs.{known_of as known_in, standing_in};
+ghost use Rattle.s66_cert.specs.{document_of, FACT_LIMIT};
+ghost use Rattle.s66_checker.specs.{problem_of, facts_of, begun_by, KnowsAll, AreTaken, IsUntaken, is_reached, is_result_late, is_point_late};
 
 use crate::replay::{KeptPoint, Prefix};
 use s66_cert::{Document, FactStep};
@@ -108,7 +107,7 @@ pub(crate) struct Known {
 
 impl Model for Known {
     ghost use Rattle.std.specs.Prelude.{◌≡◌};
-    ghost use Rattle.s66_facts.specs.BlockGround.{Ground};
+    ghost use Rattle.s66_facts.specs.{Ground};
     ghost use Rattle.s66_checker.specs.KeptKnown.{HasTails, AreTails};
 
     ghost Value = { Ground };
@@ -119,14 +118,6 @@ impl Model for Known {
 }
 
 impl Known {
-    ghost use Rattle.std.specs.Prelude.{◌≡◌, ◌≤◌, ◌&&◌, IfOk, IfErr, OnOk, Some, nat_le, length, true};
-    ghost use Rattle.s66_isa.specs.declared.limits.TheConstants.{BLOCK_LIMIT};
-    ghost use Rattle.s66_model.specs.LegalOrder.{is_remaining};
-    ghost use Rattle.s66_moments.specs.declared.moment.Stage.TheVariants.{Issue, Start};
-    ghost use Rattle.s66_moments.specs.declared.moment.Moment.TheVariants.{At};
-    ghost use Rattle.s66_moments.specs.Networks.{tail};
-    ghost use Rattle.s66_moments.specs.KnownFacts.{arcs_of, next_value, is_turned};
-
     /// What is known after the fact lines of a document of this block under this profile. If one of them isn't shown by what is known
     /// before it, the number of the first such line in the document; if a supposition doesn't end, that of the line on which it began.
     pub(crate) fn after(

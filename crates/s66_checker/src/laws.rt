@@ -1,21 +1,10 @@
 //! What a verdict and the test of dominance say, each the contract of a function that does nothing.
 
 ghost use Rattle.std.specs.Prelude.{ℕ, List, [], ◌≡◌, ◌↔◌, true, false, None};
-ghost use Rattle.s66_model.specs.declared.rule.Rule.TheVariants.{NoneNamed, WrittenEarlier, ClampedStanding};
-ghost use Rattle.s66_model.specs.Timing.{Problem};
-ghost use Rattle.s66_model.specs.Digits.{HaveDigits};
-ghost use Rattle.s66_model.specs.Dominance.{Dominates, DominatesClamped};
-ghost use Rattle.s66_model.specs.BestAndBound.{IsBound};
-ghost use Rattle.s66_cert.specs.Documents.{Document, IsDocument};
-ghost use Rattle.s66_checker.specs.declared.verdict.Verdict.TheVariants.{Yes};
-ghost use Rattle.s66_checker.specs.Verdict.{verdict, problem_of};
-ghost use Rattle.s66_moments.specs.declared.fact_line.FactStep.{FactStep};
-ghost use Rattle.s66_moments.specs.FactLines.{facts_after};
-ghost use Rattle.s66_moments.specs.InUse.{DominatesInUse};
-ghost use Rattle.s66_moments.specs.KnownFacts.{Known};
-ghost use Rattle.s66_moments.specs.Suppositions.{standing_first, standing_after, are_steps_taken, shown_by_all};
-ghost use Rattle.s66_checker.specs.Dominating.{dominates_by, dominates_in_use};
-ghost use Rattle.s66_checker.specs.TrueClaims.{IsTrueClaim};
+ghost use Rattle.s66_model.specs.{NoneNamed, WrittenEarlier, ClampedStanding, Problem, HaveDigits, Dominates, DominatesClamped, IsBound};
+ghost use Rattle.s66_moments.specs.{FactStep, facts_after, DominatesInUse, Known, standing_first, standing_after, are_steps_taken, shown_by_all};
+ghost use Rattle.s66_cert.specs.{Document, IsDocument};
+ghost use Rattle.s66_checker.specs.{Yes, verdict, problem_of, dominates_by, dominates_in_use, IsTrueClaim};
 
 /// If the verdict on a document is yes, with its time and its bound, what it claims is true; without fact lines it is yes exactly
 /// then. No legal order then takes less than the bound.

@@ -1,14 +1,10 @@
 //! Values of leaves, in minor cycles, and the numbers that are ready. The leaves are the four bounds without facts: a whole order, a
 //! chain, a load, which is the work that remains for a kind of unit, shared by its copies and rounded up, and parcels.
 
-ghost use Rattle.std.specs.Prelude.{◌≡◌, ◌+◌, ◌-◌, ◌*◌, ◌≤◌, ◌<◌, ◌^◌, ◌&&◌, nat_lt, true, length, IfSome};
-ghost use Rattle.s66_isa.specs.declared.limits.TheConstants.{BLOCK_LIMIT};
-ghost use Rattle.std.specs.Option.{is_some};
-ghost use Rattle.s66_model.specs.Timing.{points_of, row_at, next};
-ghost use Rattle.s66_model.specs.LegalOrder.{is_remaining, ready, sum_remaining};
-ghost use Rattle.s66_model.specs.Leaves.{Chain, head, link, is_linked, walk, work_of, over, if_last, parcels, load, chain_value};
-ghost use Rattle.s66_checker.specs.KeptPrefix.{TOTAL_LIMIT};
-ghost use Rattle.s66_checker.specs.Verdict.{has_links, is_walk};
+ghost use Rattle.std.specs.Prelude.{◌≡◌, ◌+◌, ◌-◌, ◌*◌, ◌≤◌, ◌<◌, ◌^◌, ◌&&◌, nat_lt, true, length, IfSome, is_some};
+ghost use Rattle.s66_isa.specs.{BLOCK_LIMIT};
+ghost use Rattle.s66_model.specs.{points_of, row_at, next, is_remaining, ready, sum_remaining, Chain, head, link, is_linked, walk, work_of, over, if_last, parcels, load, chain_value};
+ghost use Rattle.s66_checker.specs.{TOTAL_LIMIT, has_links, is_walk};
 
 use crate::links::{link, own_parcels, tail, work};
 use crate::replay::{Numbers, Prefix, next, registers_done, rest_busy, writes_done};

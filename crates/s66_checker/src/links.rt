@@ -1,9 +1,8 @@
 //! How long one instruction waits for another at least, and how long it takes by itself, in minor cycles.
 
 ghost use Rattle.std.specs.Prelude.{◌≡◌, if◌then◌else◌};
-ghost use Rattle.s66_isa.specs.Lists.{greatest, some_of};
-ghost use Rattle.s66_isa.specs.Table.{Write as WriteOf, same_reg};
-ghost use Rattle.s66_model.specs.Leaves.{tail, uses, work_of, link};
+ghost use Rattle.s66_isa.specs.{greatest, some_of, Write as WriteOf, same_reg};
+ghost use Rattle.s66_model.specs.{tail, uses, work_of, link};
 
 use s66_isa::{
     Kind, Reg, Row, Write, has_register, is_memory_conflict, is_same_kind, is_same_register,

@@ -4,13 +4,10 @@
 //! in sum, and after any of them so much is left; so each order that begins with the prefix takes the bound at least.
 
 ghost use Rattle.std.specs.Prelude.{◌≡◌, ◌≤◌, ◌<◌, ◌+◌, ◌*◌, ◌&&◌, Some, true, nat_le, length, map};
-ghost use Rattle.s66_isa.specs.declared.limits.TheConstants.{BLOCK_LIMIT};
-ghost use Rattle.s66_isa.specs.Lists.{every, least, weigh};
-ghost use Rattle.s66_model.specs.Timing.{row_at};
-ghost use Rattle.s66_model.specs.LegalOrder.{is_remaining};
-ghost use Rattle.s66_moments.specs.FactLines.{Use, use_time};
-ghost use Rattle.s66_moments.specs.KnownFacts.{use_of, reaches, plus, are_rising, is_left, is_loaded};
-ghost use Rattle.s66_facts.specs.BlockGround.{known_of as known_in};
+ghost use Rattle.s66_isa.specs.{BLOCK_LIMIT, every, least, weigh};
+ghost use Rattle.s66_model.specs.{row_at, is_remaining};
+ghost use Rattle.s66_moments.specs.{Use, use_time, use_of, reaches, plus, are_rising, is_left, is_loaded};
+ghost use Rattle.s66_facts.specs.{known_of as known_in};
 
 use crate::known::Known;
 use crate::leaf::over;

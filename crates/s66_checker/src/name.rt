@@ -1,13 +1,10 @@
 //! Which names a dominated leaf may have.
 //! It has to be a node of the same tree, of the same set of numbers, that the rule lets be named.
 
-ghost use Rattle.std.specs.Prelude.{◌≡◌, IsTrue, Some};
-ghost use Rattle.std.specs.Option.{option_map};
-ghost use Rattle.s66_model.specs.DominatedLeaves.{is_standing, may_be_named};
-ghost use Rattle.s66_model.specs.Lines.{vertex_of};
-ghost use Rattle.s66_cert.specs.DocumentParts.{document_of};
-ghost use Rattle.s66_checker.specs.Verdict.{problem_of, is_early_enough, is_name, is_name_at, name_of, node_on};
-ghost use Rattle.s66_checker.specs.NamedNodes.{IsNodeOn};
+ghost use Rattle.std.specs.Prelude.{◌≡◌, IsTrue, Some, option_map};
+ghost use Rattle.s66_model.specs.{is_standing, may_be_named, vertex_of};
+ghost use Rattle.s66_cert.specs.{document_of};
+ghost use Rattle.s66_checker.specs.{problem_of, is_early_enough, is_name, is_name_at, name_of, node_on, IsNodeOn};
 
 use crate::known::fact_lines;
 use crate::replay::Prefix;

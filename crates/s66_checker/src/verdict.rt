@@ -1,7 +1,7 @@
 //! What a checker says: yes, or the first line that is wrong and the reason, with its number.
 
 ghost use Rattle.std.specs.Prelude.{◌≡◌};
-ghost use Rattle.s66_checker.specs.Reasons.{number_of};
+ghost use Rattle.s66_checker.specs.{number_of};
 
 /// What a checker says of a document.
 #[derive(Clone, Copy, Debug, PartialEq, Eq)]

@@ -1,13 +1,9 @@
 //! Goes over the lines of a tree in preorder: one prefix is pushed and popped, so that each line is judged at its own (`tree_verdict`).
 
 ghost use Rattle.std.specs.Prelude.{◌≡◌, []};
-ghost use Rattle.s66_model.specs.Later.{IsNextReady, coming, later};
-ghost use Rattle.s66_model.specs.Lines.{vertex_of};
-ghost use Rattle.s66_cert.specs.DocumentParts.{document_of};
-ghost use Rattle.s66_checker.specs.KeptKnown.{KnowsAll};
-ghost use Rattle.s66_cert.specs.Documents.{tree_placed};
-ghost use Rattle.s66_checker.specs.Verdict.{problem_of, tree_line_number, lines_verdict};
-ghost use Rattle.s66_checker.specs.Walk.{coming_after, HasReady};
+ghost use Rattle.s66_model.specs.{IsNextReady, coming, later, vertex_of};
+ghost use Rattle.s66_cert.specs.{document_of, tree_placed};
+ghost use Rattle.s66_checker.specs.{KnowsAll, problem_of, tree_line_number, lines_verdict, coming_after, HasReady};
 
 use crate::fault::line_fault;
 use crate::known::{Known, fact_lines};

@@ -2,9 +2,9 @@
 //! first, and times are in minor cycles.
 
 ghost use Rattle.std.specs.Prelude.{◌≡◌, ◌≤◌, reverse};
-ghost use Rattle.s66_model.specs.Dominance.{free_times};
-ghost use Rattle.s66_checker.specs.KeptPrefix.{AreTimed};
-ghost use Rattle.s66_checker.specs.Dominating.{are_places_no_later, are_units_no_later, is_no_later, are_results_no_later, are_operands_no_later, is_reader_no_later, are_readers_no_later, finds_no_later};
+ghost use Rattle.s66_model.specs.{free_times};
+ghost use Rattle.s66_checker.specs.{AreTimed, are_places_no_later, are_units_no_later, is_no_later, are_results_no_later, are_operands_no_later, is_reader_no_later, are_readers_no_later};
+ghost use Rattle.s66_checker.specs.{finds_no_later};
 
 use crate::replay::falling::FallingTimes;
 use crate::replay::past::Past;

@@ -1,11 +1,10 @@
 //! What each instruction of a block depends on, tested pair by pair.
 
 ghost use Rattle.std.specs.Prelude.{ℕ, ◌≡◌, ◌+◌, ◌≤◌, ◌<◌, length};
-ghost use Rattle.s66_model.specs.Dependence.{share, depends};
-ghost use Rattle.s66_isa.specs.declared.limits.TheConstants.{BLOCK_LIMIT};
-ghost use Rattle.s66_isa.specs.Lists.{has};
-ghost use Rattle.s66_isa.specs.Members.{numbers_in};
-ghost use Rattle.s66_checker.specs.KeptPrefix.{AreNeeds};
+ghost use Rattle.s66_isa.specs.{BLOCK_LIMIT, has, numbers_in, reads_of, results_of, memory_of};
+ghost use Rattle.s66_isa.specs.Table.{Instr};
+ghost use Rattle.s66_model.specs.{share, depends, conflict};
+ghost use Rattle.s66_checker.specs.{AreNeeds};
 
 use arrayvec::ArrayVec;
 use s66_isa::{BLOCK_LIMIT, Instr, Memory, Reg, Set, has_register, is_memory_conflict};
@@ -24,9 +23,6 @@ struct Effects {
 }
 
 impl Model for Effects {
-    ghost use Rattle.std.specs.Prelude.{◌≡◌};
-    ghost use Rattle.s66_isa.specs.Table.{Instr, reads_of, results_of, memory_of};
-
     ghost Value = { Instr };
 
     ghost view = { λ e. e.instr };
@@ -76,9 +72,6 @@ fn share(registers: &[Reg], others: &[Reg]) -> bool
 }
 
 impl Effects {
-    ghost use Rattle.std.specs.Prelude.{◌≡◌};
-    ghost use Rattle.s66_model.specs.Dependence.{conflict};
-
     /// Whether a later instruction reads what this one writes, or writes what this one reads, or both write one register, or both
     /// reference memory and one of them stores.
     #[tactic(auto, unfolding(s66_model::specs::Dependence::conflict))]

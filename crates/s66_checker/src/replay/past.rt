@@ -23,7 +23,7 @@ pub(crate) struct Past {
 
 impl Model for Past {
     ghost use Rattle.std.specs.Prelude.{List};
-    ghost use Rattle.s66_model.specs.Timing.{Point};
+    ghost use Rattle.s66_model.specs.{Point};
     ghost use Rattle.s66_checker.specs.PastWords.{ArePast};
 
     ghost Value = { List Point };
@@ -35,11 +35,9 @@ impl Model for Past {
 
 impl Past {
     ghost use Rattle.std.specs.Prelude.{ℕ, ◌+◌, ◌-◌, ◌++◌, [], ◌∷◌, if◌then◌else◌, take};
-    ghost use Rattle.s66_isa.specs.Lists.{greatest, tally};
-    ghost use Rattle.s66_isa.specs.Table.{memory_pair};
-    ghost use Rattle.s66_isa.specs.declared.limits.TheConstants.{BLOCK_LIMIT};
-    ghost use Rattle.s66_model.specs.Timing.{Point, busy_at, done_of, readers_wait, total};
-    ghost use Rattle.s66_checker.specs.PastWords.{AreWords};
+    ghost use Rattle.s66_isa.specs.{greatest, tally, memory_pair, BLOCK_LIMIT};
+    ghost use Rattle.s66_model.specs.{Point, busy_at, done_of, readers_wait, total};
+    ghost use Rattle.s66_checker.specs.{AreWords};
 
     /// Before the first instruction.
     pub(crate) fn new() -> Past

@@ -1,9 +1,8 @@
 //! An instruction at its place in an order, with its times.
 
-ghost use Rattle.std.specs.Prelude.{◌≡◌, ◌+◌, if◌then◌else◌};
-ghost use Rattle.s66_isa.specs.Table.{memory_pair};
-ghost use Rattle.s66_model.specs.Timing.{busy_at, done_at, end_of};
-ghost use Rattle.s66_model.specs.Leaves.{rest_busy};
+ghost use Rattle.std.specs.Prelude.{◌≡◌, ◌+◌, if◌then◌else◌, ◌<◌, ◌^◌};
+ghost use Rattle.s66_isa.specs.{memory_pair};
+ghost use Rattle.s66_model.specs.{busy_at, done_at, end_of, rest_busy, Point};
 
 use crate::replay::result::{KeptResult, last_time};
 use arrayvec::ArrayVec;
@@ -23,9 +22,6 @@ pub struct KeptPoint {
 }
 
 impl Model for KeptPoint {
-    ghost use Rattle.std.specs.Prelude.{◌+◌, ◌<◌, ◌^◌};
-    ghost use Rattle.s66_model.specs.Timing.{Point};
-
     ghost Value = { Point };
 
     ghost view = { λ p.

@@ -2,8 +2,7 @@
 //! dominance.
 
 ghost use Rattle.std.specs.Prelude.{◌≡◌, ◌≤◌, length, map};
-ghost use Rattle.s66_isa.specs.Table.{row};
-ghost use Rattle.s66_isa.specs.declared.limits.TheConstants.{BLOCK_LIMIT};
+ghost use Rattle.s66_isa.specs.{row, BLOCK_LIMIT};
 
 use crate::replay::dominance::is_no_later;
 use crate::replay::needs::{Numbers, needs_of_all};
@@ -54,14 +53,10 @@ fn rows_of(block: &[Instr], profile: &Profile) -> ArrayVec<Row, BLOCK_LIMIT>
 
 impl Prefix {
     ghost use Rattle.std.specs.Prelude.{ℕ, ◌++◌, ◌<◌, ◌≢◌, ◌&&◌, [], ◌∷◌, true, false, IfSome, IfNone, IsTrue, get_or, reverse, take};
-    ghost use Rattle.s66_model.specs.Timing.{copies, point_of, points_of, row_at, total_of};
-    ghost use Rattle.s66_model.specs.LegalOrder.{IsBeginning, is_remaining, is_ready, needs_met};
-    ghost use Rattle.s66_model.specs.Dependence.{depends};
-    ghost use Rattle.s66_isa.specs.Lists.{has};
-    ghost use Rattle.s66_moments.specs.KnownFacts.{is_number};
-    ghost use Rattle.s66_isa.specs.Members.{numbers_in};
-    ghost use Rattle.s66_checker.specs.KeptPrefix.{AreTimed};
-    ghost use Rattle.s66_checker.specs.Dominating.{is_beginning, is_same_set, is_earlier, dominates_by};
+    ghost use Rattle.s66_model.specs.{copies, point_of, points_of, row_at, total_of, IsBeginning, is_remaining, is_ready, needs_met, depends};
+    ghost use Rattle.s66_isa.specs.{has, numbers_in};
+    ghost use Rattle.s66_moments.specs.{is_number};
+    ghost use Rattle.s66_checker.specs.{AreTimed, is_beginning, is_same_set, is_earlier, dominates_by};
 
     /// Before the first instruction of a block, under a profile. Each pair of its instructions is looked at once.
     pub fn new(block: &[Instr], profile: &Profile) -> Prefix

@@ -1,8 +1,8 @@
 //! A result of a placed instruction, and when its unit is free after its results.
 
 ghost use Rattle.std.specs.Prelude.{◌≡◌, ◌+◌, ◌<◌, ◌^◌, if◌then◌else◌};
-ghost use Rattle.s66_isa.specs.Lists.{greatest};
-ghost use Rattle.s66_model.specs.Timing.{ResultAt, free_after};
+ghost use Rattle.s66_isa.specs.{greatest};
+ghost use Rattle.s66_model.specs.{ResultAt, free_after};
 
 use s66_isa::Reg;
 use std::marker::Model;
@@ -16,8 +16,6 @@ pub(crate) struct KeptResult {
 }
 
 impl Model for KeptResult {
-    ghost use Rattle.s66_model.specs.Timing.{ResultAt};
-
     ghost Value = { ResultAt };
 
     ghost view = { λ d. record { reg = d.reg; time = d.time; held = d.held } };

@@ -2,12 +2,9 @@
 //! minor cycles.
 
 ghost use Rattle.std.specs.Prelude.{◌≡◌, ◌+◌, ◌<◌, ◌≤◌, ◌^◌, length, map, reverse};
-ghost use Rattle.s66_isa.specs.Lists.{greatest, weigh};
-ghost use Rattle.s66_isa.specs.Table.{Write as WriteOf};
-ghost use Rattle.s66_model.specs.Packing.{fits_at};
-ghost use Rattle.s66_model.specs.Timing.{Problem, done_of, next, next_parcel, parcel_of, slot_of, issue_of, start_of, readers_wait, result_at, point};
-ghost use Rattle.s66_model.specs.Leaves.{rest_busy};
-ghost use Rattle.s66_checker.specs.KeptPrefix.{TOTAL_LIMIT, with_profile, AreTimed};
+ghost use Rattle.s66_isa.specs.{greatest, weigh, Write as WriteOf};
+ghost use Rattle.s66_model.specs.{fits_at, Problem, done_of, next, next_parcel, parcel_of, slot_of, issue_of, start_of, readers_wait, result_at, point, rest_busy};
+ghost use Rattle.s66_checker.specs.{TOTAL_LIMIT, with_profile, AreTimed};
 
 use crate::replay::past::Past;
 use crate::replay::point::KeptPoint;

@@ -1,11 +1,10 @@
 //! What the instructions that are placed leave for the next, in a few words. All words are minor cycles.
 
 ghost use Rattle.std.specs.Prelude.{ℕ, ◌≡◌, ◌+◌, ◌≤◌, ◌<◌, ◌↔◌, IsTrue, ◌++◌, [], ◌∷◌, List, if◌then◌else◌, get_or, max, nat_lt};
-ghost use Rattle.s66_isa.specs.Lists.{greatest};
-ghost use Rattle.s66_isa.specs.Table.{Reg as RegOf, same_reg, has_reg};
-ghost use Rattle.s66_model.specs.Timing.{Point, ResultAt};
-ghost use Rattle.s66_isa.specs.Registers.{word_of};
-ghost use Rattle.s66_checker.specs.PastWords.{AreFree, AreWords};
+ghost use Rattle.s66_isa.specs.{greatest, same_reg, has_reg, word_of};
+ghost use Rattle.s66_isa.specs.Table.{Reg as RegOf};
+ghost use Rattle.s66_model.specs.{Point, ResultAt};
+ghost use Rattle.s66_checker.specs.{AreFree, AreWords};
 
 use crate::replay::point::KeptPoint;
 use crate::replay::result::KeptResult;

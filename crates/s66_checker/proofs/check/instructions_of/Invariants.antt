@@ -1,5 +1,5 @@
 use Rattle.std.proofs.Common.{◌≡◌, ◌++◌, drop, length, map}
-use Rattle.s66_line.specs.InstructionText.{instr_in_text}
+use Rattle.s66_line.specs.{instr_in_text}
 use Rattle.s66_checker.proofs.check.instructions_of.Given as goal
 
 -- those so far, and then those of the rest, are all

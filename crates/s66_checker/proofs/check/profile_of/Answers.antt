@@ -1,6 +1,6 @@
 use Rattle.std.proofs.Common.{subst, sym, ◌∙◌}
-use Rattle.s66_isa.specs.Profiles.{IsProfile}
-use Rattle.s66_cert.specs.DocumentParts.{document_of}
+use Rattle.s66_isa.specs.{IsProfile}
+use Rattle.s66_cert.specs.{document_of}
 use Rattle.s66_checker.proofs.KeptProfile.{profile-kept}
 use Rattle.s66_checker.proofs.check.profile_of.Goals as goal
 

@@ -1,8 +1,7 @@
 use Rattle.std.proofs.Common.{◌∙◌, [], sym}
-use Rattle.s66_cert.specs.DocumentParts.{document_of}
-use Rattle.s66_cert.specs.Documents.{tree_placed}
-use Rattle.s66_checker.specs.Verdict.{problem_of, facts_of, tree_line_number, fact_line_number, lines_verdict}
-use Rattle.s66_moments.specs.Suppositions.{standing_first}
+use Rattle.s66_moments.specs.{standing_first}
+use Rattle.s66_cert.specs.{document_of, tree_placed}
+use Rattle.s66_checker.specs.{problem_of, facts_of, tree_line_number, fact_line_number, lines_verdict}
 use Rattle.s66_checker.proofs.TakenLines.{facts-taken}
 use Rattle.s66_checker.proofs.check.proof_verdict.Goals as goal
 

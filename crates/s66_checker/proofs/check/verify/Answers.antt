@@ -1,9 +1,8 @@
 use Rattle.std.proofs.Common.{rules, ◌≡◌, ◌≤◌, sym, subst, ◌∙◌}
-use Rattle.s66_isa.specs.declared.limits.TheConstants.{BLOCK_LIMIT}
-use Rattle.s66_model.specs.Timing.{total_of}
-use Rattle.s66_cert.specs.Documents.{Document}
-use Rattle.s66_cert.specs.DocumentParts.{document_of}
-use Rattle.s66_checker.specs.Verdict.{problem_of, verdict}
+use Rattle.s66_isa.specs.{BLOCK_LIMIT}
+use Rattle.s66_model.specs.{total_of}
+use Rattle.s66_cert.specs.{Document, document_of}
+use Rattle.s66_checker.specs.{problem_of, verdict}
 use Rattle.s66_checker.proofs.GrantedClaims.{verdict-claims, claim-bound}
 use Rattle.s66_checker.proofs.check.verify.Goals as goal
 

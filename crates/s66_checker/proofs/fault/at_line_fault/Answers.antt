@@ -1,10 +1,7 @@
 use Rattle.std.proofs.Common.{ℕ, List, ◌≡◌, ◌∙◌, true, false, sym, subst}
-use Rattle.s66_model.specs.declared.rule.Rule.TheVariants.{ClampedStanding}
-use Rattle.s66_model.specs.Timing.{Problem}
-use Rattle.s66_cert.specs.Documents.{Document}
-use Rattle.s66_cert.specs.DocumentParts.{document_of}
-use Rattle.s66_checker.specs.Dominating.{dominates_by}
-use Rattle.s66_checker.specs.Verdict.{problem_of, is_complete, node_on, name_of}
+use Rattle.s66_model.specs.{ClampedStanding, Problem}
+use Rattle.s66_cert.specs.{Document, document_of}
+use Rattle.s66_checker.specs.{dominates_by, problem_of, is_complete, node_on, name_of}
 use Rattle.s66_checker.proofs.InUseTests.{clamped-fine}
 use Rattle.s66_checker.proofs.fault.at_line_fault.Goals as goal
 

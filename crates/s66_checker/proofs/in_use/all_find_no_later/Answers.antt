@@ -1,7 +1,7 @@
 use Rattle.std.proofs.Common.{ℕ, Bool, true≢false, ◌∙◌, sym}
-use Rattle.s66_model.specs.LegalOrder.{is_remaining}
-use Rattle.s66_facts.specs.BlockGround.{known_of as known_in}
-use Rattle.s66_checker.specs.Dominating.{number_finds_no_later}
+use Rattle.s66_model.specs.{is_remaining}
+use Rattle.s66_facts.specs.{known_of as known_in}
+use Rattle.s66_checker.specs.{number_finds_no_later}
 use Rattle.s66_checker.proofs.FoundInUse.{next-found}
 use Rattle.s66_checker.proofs.in_use.all_find_no_later.Goals.{else-is_remaining-via-then-is_remaining+else-not-number_finds_no_later, else-is_remaining-via-else-is_remaining}
 use Rattle.s66_checker.proofs.in_use.all_find_no_later.Goals as goal

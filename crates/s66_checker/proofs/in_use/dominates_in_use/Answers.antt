@@ -1,7 +1,6 @@
 use Rattle.std.proofs.Common.{List, ℕ, ◌%◌, ◌≡◌, ◌≤◌, ◌<◌, ◌⊎◌, ◌∙◌, arith, ap, sym, subst, inl, inr, reverse}
-use Rattle.s66_model.specs.LegalOrder.{IsBeginning}
-use Rattle.s66_model.specs.Timing.{Problem, next, next_parcel, points_of, total_of}
-use Rattle.s66_facts.specs.BlockGround.{known_of as known_in}
+use Rattle.s66_model.specs.{IsBeginning, Problem, next, next_parcel, points_of, total_of}
+use Rattle.s66_facts.specs.{known_of as known_in}
 use Rattle.s66_checker.proofs.FoundInUse.{in_use-stated}
 use Rattle.s66_checker.proofs.in_use.dominates_in_use.Goals.{else-total-low-via-then-total-low+else-total, else-total-low-via-else-total-low}
 use Rattle.s66_checker.proofs.in_use.dominates_in_use.Goals as goal

@@ -1,8 +1,8 @@
 use Rattle.std.proofs.Common.{ℕ, List, ◌∙◌, arith, ap, sym}
-use Rattle.s66_isa.specs.Table.{Row}
-use Rattle.s66_model.specs.Timing.{Problem, Point, copies, next, point_of, points_of}
-use Rattle.s66_moments.specs.KnownFacts.{issue_at_least, start_at_least}
-use Rattle.s66_facts.specs.BlockGround.{known_of as known_in}
+use Rattle.s66_isa.specs.{Row}
+use Rattle.s66_model.specs.{Problem, Point, copies, next, point_of, points_of}
+use Rattle.s66_moments.specs.{issue_at_least, start_at_least}
+use Rattle.s66_facts.specs.{known_of as known_in}
 use Rattle.s66_checker.proofs.FoundInUse.{found-stated}
 use Rattle.s66_checker.proofs.InUseTests.{finds-still}
 use Rattle.s66_checker.proofs.in_use.number_finds_no_later.Goals as goal

@@ -1,8 +1,7 @@
 use Rattle.std.proofs.Common.{rules, ℕ, ◌+◌, ◌^◌, ◌≤◌, ◌<◌, Bool, true, false, cond, ◌∙◌, sym, arith}
-use Rattle.s66_model.specs.Timing.{Problem, row_at}
-use Rattle.s66_model.specs.LegalOrder.{is_remaining}
+use Rattle.s66_model.specs.{Problem, row_at, is_remaining}
 use Rattle.s66_model.proofs.PointTimes.{good-at}
-use Rattle.s66_facts.specs.BlockGround.{known_of as known_in}
+use Rattle.s66_facts.specs.{known_of as known_in}
 use Rattle.s66_checker.proofs.NumbersInTurn.{sum_taken, sum_passed, sum_all}
 use Rattle.s66_checker.proofs.in_use.parcels_before.Goals.{then-is_remaining, else-is_remaining}
 use Rattle.s66_checker.proofs.in_use.parcels_before.Goals as goal

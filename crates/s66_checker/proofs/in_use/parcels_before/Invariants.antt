@@ -1,9 +1,7 @@
-use Rattle.std.proofs.Common.{◌≡◌, ◌≤◌, ◌*◌, cond}
-use Rattle.std.specs.List.{filter}
-use Rattle.s66_isa.specs.Lists.{weigh, rising}
-use Rattle.s66_model.specs.Timing.{row_at}
-use Rattle.s66_model.specs.LegalOrder.{is_remaining}
-use Rattle.s66_facts.specs.BlockGround.{known_of as known_in}
+use Rattle.std.proofs.Common.{◌≡◌, ◌≤◌, ◌*◌, cond, filter}
+use Rattle.s66_isa.specs.{weigh, rising}
+use Rattle.s66_model.specs.{row_at, is_remaining}
+use Rattle.s66_facts.specs.{known_of as known_in}
 use Rattle.s66_checker.proofs.in_use.parcels_before.Given as goal
 
 abbrev pub invariant-loop-position : goal.invariant-loop-position

@@ -1,9 +1,9 @@
 use Rattle.std.proofs.Common.{◌≡◌, ◌≤◌, ◌+◌, drop}
-use Rattle.s66_moments.specs.Suppositions.{standing_first, standing_after, are_steps_taken}
-use Rattle.s66_cert.specs.DocumentParts.{document_of}
+use Rattle.s66_moments.specs.{standing_first, standing_after, are_steps_taken}
+use Rattle.s66_facts.specs.{standing_in}
+use Rattle.s66_cert.specs.{document_of}
 use Rattle.s66_checker.specs.declared.verdict.Verdict.{Verdict}
-use Rattle.s66_facts.specs.Supposing.{standing_in}
-use Rattle.s66_checker.specs.Verdict.{problem_of, facts_of, standing_of, fact_line_number, facts_verdict}
+use Rattle.s66_checker.specs.{problem_of, facts_of, standing_of, fact_line_number, facts_verdict}
 use Rattle.s66_checker.proofs.known.first_untaken.Given as goal
 
 -- what is said of the lines that are left is what is said of all

@@ -1,6 +1,5 @@
 use Rattle.std.proofs.Common.{[], refl}
-use Rattle.s66_moments.specs.FactLines.{facts_after}
-use Rattle.s66_moments.specs.Suppositions.{standing_first, standing_after, shown_by_all}
+use Rattle.s66_moments.specs.{facts_after, standing_first, standing_after, shown_by_all}
 use Rattle.s66_moments.proofs.SupposedLines.{after-stands, closed-sound}
 use Rattle.s66_checker.proofs.DominanceTests.{written-Decides, clamped-Decides, document-digits}
 use Rattle.s66_checker.proofs.InUseTests.{in_use-shown, clamped-in_use}

@@ -1,6 +1,6 @@
 use Rattle.std.proofs.Common.{List, ℕ, ◌∙◌, ap, sym}
-use Rattle.s66_model.specs.Leaves.{Chain}
-use Rattle.s66_checker.specs.Verdict.{has_links}
+use Rattle.s66_model.specs.{Chain}
+use Rattle.s66_checker.specs.{has_links}
 use Rattle.s66_checker.proofs.LeafBounds.{walk-none}
 use Rattle.s66_checker.proofs.leaf.chain_value.Goals as goal
 

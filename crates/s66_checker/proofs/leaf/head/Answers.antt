@@ -1,8 +1,6 @@
 use Rattle.std.proofs.Common.{◌∙◌, ◌≡◌, ap, sym, max, reverse, arith}
-use Rattle.s66_isa.specs.Lists.{greatest}
-use Rattle.s66_isa.specs.Table.{Row, Write}
-use Rattle.s66_model.specs.Timing.{row_at, points_of, done_of, next}
-use Rattle.s66_model.specs.Leaves.{head}
+use Rattle.s66_isa.specs.{greatest, Row, Write}
+use Rattle.s66_model.specs.{row_at, points_of, done_of, next, head}
 use Rattle.s66_checker.proofs.LeafBounds.{head-looked, head-le}
 use Rattle.s66_checker.proofs.leaf.head.Goals as goal
 

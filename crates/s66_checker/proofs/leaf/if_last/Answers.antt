@@ -1,6 +1,5 @@
 use Rattle.std.proofs.Common.{rules, ◌+◌, ◌^◌, ◌<◌, ap, arith}
-use Rattle.s66_model.specs.Timing.{row_at}
-use Rattle.s66_model.specs.Leaves.{tail}
+use Rattle.s66_model.specs.{row_at, tail}
 use Rattle.s66_model.proofs.PointTimes.{good-at}
 use Rattle.s66_checker.proofs.LeafBounds.{tail-le}
 use Rattle.s66_checker.proofs.leaf.if_last.Goals as goal

@@ -1,11 +1,10 @@
 use Rattle.std.proofs.Common.{rules, ◌+◌, ◌^◌, ◌<◌, ◌≡◌, ◌∙◌, ap, sym, arith}
-use Rattle.s66_isa.specs.Lists.{weigh}
-use Rattle.s66_model.specs.Timing.{points_of, next}
-use Rattle.s66_model.specs.Leaves.{rest_busy}
+use Rattle.s66_isa.specs.{weigh}
+use Rattle.s66_isa.proofs.Lists.{weigh-reverse}
+use Rattle.s66_model.specs.{points_of, next, rest_busy}
 use Rattle.s66_checker.proofs.KeptPoints.{timed-work}
 use Rattle.s66_checker.proofs.LeafBounds.{load-made}
 use Rattle.s66_checker.proofs.leaf.load.Goals as goal
-use Rattle.s66_isa.proofs.Lists.{weigh-reverse}
 
 pub overflow_add-work : goal.overflow_add-work
 overflow_add-work c =

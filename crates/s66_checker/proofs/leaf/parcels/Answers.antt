@@ -1,8 +1,6 @@
-use Rattle.std.proofs.Common.{ℕ, ◌+◌, ◌≡◌, Bool, Option, min, length, ◌∙◌, ap, sym, subst, arith}
-use Rattle.std.specs.List.{filter}
-use Rattle.s66_isa.specs.Lists.{least, rising}
-use Rattle.s66_model.specs.LegalOrder.{is_remaining}
-use Rattle.s66_model.specs.Leaves.{if_last}
+use Rattle.std.proofs.Common.{ℕ, ◌+◌, ◌≡◌, Bool, Option, min, length, ◌∙◌, ap, sym, subst, arith, filter}
+use Rattle.s66_isa.specs.{least, rising}
+use Rattle.s66_model.specs.{is_remaining, if_last}
 use Rattle.s66_checker.proofs.NumbersInTurn.{IsLeast, least_first, least_other, least_passed}
 use Rattle.s66_checker.proofs.leaf.parcels.Goals.{then-is_remaining+in-None, then-is_remaining+in-Some, else-is_remaining}
 use Rattle.s66_checker.proofs.leaf.parcels.Goals as goal

@@ -1,7 +1,6 @@
-use Rattle.std.specs.List.{filter}
-use Rattle.s66_isa.specs.Lists.{rising}
-use Rattle.s66_model.specs.LegalOrder.{is_remaining}
-use Rattle.s66_model.specs.Leaves.{if_last}
+use Rattle.std.proofs.Common.{filter}
+use Rattle.s66_isa.specs.{rising}
+use Rattle.s66_model.specs.{is_remaining, if_last}
 use Rattle.s66_checker.proofs.NumbersInTurn.{IsLeast}
 use Rattle.s66_checker.proofs.leaf.parcels.Given as goal
 

@@ -1,6 +1,6 @@
 use Rattle.std.proofs.Common.{ℕ, Bool, ◌∙◌, ap, sym, length, arith}
 use Rattle.arrayvec.specs.ArrayVec.{ArrayVec}
-use Rattle.s66_model.specs.LegalOrder.{is_ready}
+use Rattle.s66_model.specs.{is_ready}
 use Rattle.s66_checker.proofs.NumbersInTurn.{filter_taken, filter_passed}
 use Rattle.s66_checker.proofs.leaf.ready.Goals.{then-is_ready, else-is_ready}
 use Rattle.s66_checker.proofs.leaf.ready.Goals as goal

@@ -1,7 +1,6 @@
-use Rattle.std.proofs.Common.{◌≡◌, ◌≤◌, length}
-use Rattle.std.specs.List.{filter}
-use Rattle.s66_isa.specs.Lists.{rising}
-use Rattle.s66_model.specs.LegalOrder.{is_ready}
+use Rattle.std.proofs.Common.{◌≡◌, ◌≤◌, length, filter}
+use Rattle.s66_isa.specs.{rising}
+use Rattle.s66_model.specs.{is_ready}
 use Rattle.s66_checker.proofs.leaf.ready.Given as goal
 
 abbrev pub invariant-loop-position : goal.invariant-loop-position

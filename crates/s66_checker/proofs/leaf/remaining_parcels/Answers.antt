@@ -1,7 +1,6 @@
 use Rattle.std.proofs.Common.{rules, ℕ, ◌+◌, ◌^◌, ◌<◌, Bool, ◌∙◌, ap, sym, arith}
-use Rattle.s66_isa.specs.Table.{Row}
-use Rattle.s66_model.specs.Timing.{row_at}
-use Rattle.s66_model.specs.LegalOrder.{is_remaining}
+use Rattle.s66_isa.specs.{Row}
+use Rattle.s66_model.specs.{row_at, is_remaining}
 use Rattle.s66_model.proofs.PointTimes.{good-at}
 use Rattle.s66_checker.proofs.NumbersInTurn.{sum_taken, sum_passed, sum_all}
 use Rattle.s66_checker.proofs.leaf.remaining_parcels.Goals.{then-is_remaining, else-is_remaining}

@@ -1,9 +1,6 @@
-use Rattle.std.proofs.Common.{◌≡◌, ◌≤◌, ◌*◌}
-use Rattle.std.specs.List.{filter}
-use Rattle.s66_isa.specs.Lists.{weigh, rising}
-use Rattle.s66_model.specs.Timing.{row_at}
-use Rattle.s66_model.specs.LegalOrder.{is_remaining}
-use Rattle.s66_model.specs.Leaves.{work_of}
+use Rattle.std.proofs.Common.{◌≡◌, ◌≤◌, ◌*◌, filter}
+use Rattle.s66_isa.specs.{weigh, rising}
+use Rattle.s66_model.specs.{row_at, is_remaining, work_of}
 use Rattle.s66_checker.proofs.leaf.remaining_work.Given as goal
 
 abbrev pub invariant-loop-position : goal.invariant-loop-position

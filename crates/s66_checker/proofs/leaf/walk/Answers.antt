@@ -1,14 +1,11 @@
-use Rattle.std.proofs.Common.{rules, ℕ, List, ◌+◌, ◌*◌, ◌^◌, ◌<◌, ◌≤◌, ◌≡◌, ◌&&◌, true, false, drop, get_or, length, ◌∙◌, ap, sym, arith}
-use Rattle.std.proofs.lemmas.Bool.{and_parts, lt-ltb, le-ltb, ltb-true}
+use Rattle.std.proofs.Common.{rules, ℕ, List, ◌+◌, ◌*◌, ◌^◌, ◌<◌, ◌≤◌, ◌≡◌, ◌&&◌, true, false, drop, get_or, length, ◌∙◌, ap, sym, arith, lt-ltb, le-ltb, ltb-true}
+use Rattle.std.proofs.lemmas.Bool.{and_parts}
 use Rattle.std.proofs.lemmas.List.{at_drop_more, drop_all}
-use Rattle.s66_isa.specs.Table.{Row}
-use Rattle.s66_model.specs.Timing.{Problem, row_at}
-use Rattle.s66_isa.specs.declared.limits.TheConstants.{BLOCK_LIMIT}
-use Rattle.s66_model.specs.LegalOrder.{is_remaining}
-use Rattle.s66_model.specs.Leaves.{walk, is_linked, tail}
+use Rattle.s66_isa.specs.{Row, BLOCK_LIMIT}
+use Rattle.s66_model.specs.{Problem, row_at, is_remaining, walk, is_linked, tail}
 use Rattle.s66_model.proofs.PointTimes.{good-at}
 use Rattle.s66_model.proofs.Remaining.{remaining-parts}
-use Rattle.s66_checker.specs.Verdict.{is_walk}
+use Rattle.s66_checker.specs.{is_walk}
 use Rattle.s66_checker.proofs.LeafBounds.{link-le, tail-le, walk-on, walk-off}
 use Rattle.s66_checker.proofs.leaf.walk.Goals as goal
 

@@ -1,7 +1,6 @@
 use Rattle.std.proofs.Common.{◌≡◌, ◌≤◌, ◌+◌, ◌*◌, true, drop}
-use Rattle.s66_model.specs.LegalOrder.{is_remaining}
-use Rattle.s66_model.specs.Leaves.{walk}
-use Rattle.s66_checker.specs.Verdict.{is_walk}
+use Rattle.s66_model.specs.{is_remaining, walk}
+use Rattle.s66_checker.specs.{is_walk}
 use Rattle.s66_checker.proofs.leaf.walk.Given as goal
 
 abbrev pub invariant-loop-m : goal.invariant-loop-m

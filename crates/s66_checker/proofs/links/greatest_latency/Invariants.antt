@@ -1,6 +1,5 @@
 use Rattle.std.proofs.Common.{◌≡◌, max, drop}
-use Rattle.s66_isa.specs.Lists.{greatest}
-use Rattle.s66_isa.specs.Table.{Write}
+use Rattle.s66_isa.specs.{greatest, Write}
 use Rattle.s66_checker.proofs.links.greatest_latency.Given as goal
 
 abbrev pub invariant-loop-write : goal.invariant-loop-write

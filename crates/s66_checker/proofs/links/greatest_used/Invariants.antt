@@ -1,7 +1,6 @@
 use Rattle.std.proofs.Common.{◌≡◌, if◌then◌else◌, max, drop}
-use Rattle.s66_isa.specs.Lists.{greatest}
-use Rattle.s66_isa.specs.Table.{Write}
-use Rattle.s66_model.specs.Leaves.{uses}
+use Rattle.s66_isa.specs.{greatest, Write}
+use Rattle.s66_model.specs.{uses}
 use Rattle.s66_checker.proofs.links.greatest_used.Given as goal
 
 abbrev pub invariant-loop-write : goal.invariant-loop-write

@@ -1,6 +1,5 @@
 use Rattle.std.proofs.Common.{◌≡◌, drop}
-use Rattle.s66_isa.specs.Lists.{some_of}
-use Rattle.s66_isa.specs.Table.{Write, same_reg}
+use Rattle.s66_isa.specs.{some_of, Write, same_reg}
 use Rattle.s66_checker.proofs.links.is_written.Given as goal
 
 abbrev pub invariant-loop-write : goal.invariant-loop-write

@@ -1,8 +1,7 @@
 use Rattle.std.proofs.Common.{◌+◌, ◌*◌, ◌≡◌, ◌≤◌, true, map, drop}
-use Rattle.s66_isa.specs.Lists.{every, weigh}
-use Rattle.s66_model.specs.LegalOrder.{is_remaining}
-use Rattle.s66_moments.specs.FactLines.{Use}
-use Rattle.s66_moments.specs.KnownFacts.{use_of}
+use Rattle.s66_isa.specs.{every, weigh}
+use Rattle.s66_model.specs.{is_remaining}
+use Rattle.s66_moments.specs.{Use, use_of}
 use Rattle.s66_checker.proofs.loaded.amounts.Given as goal
 
 abbrev pub invariant-loop-n : goal.invariant-loop-n

@@ -1,8 +1,8 @@
 use Rattle.std.proofs.Common.{◌≡◌, true, drop}
-use Rattle.s66_isa.specs.Lists.{every}
-use Rattle.s66_model.specs.LegalOrder.{is_remaining}
-use Rattle.s66_moments.specs.KnownFacts.{is_left}
-use Rattle.s66_facts.specs.BlockGround.{known_of as known_in}
+use Rattle.s66_isa.specs.{every}
+use Rattle.s66_model.specs.{is_remaining}
+use Rattle.s66_moments.specs.{is_left}
+use Rattle.s66_facts.specs.{known_of as known_in}
 use Rattle.s66_checker.proofs.loaded.are_left.Given as goal
 
 abbrev pub invariant-loop-n : goal.invariant-loop-n

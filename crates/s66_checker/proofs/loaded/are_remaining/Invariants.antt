@@ -1,6 +1,6 @@
 use Rattle.std.proofs.Common.{◌≡◌, drop}
-use Rattle.s66_isa.specs.Lists.{every}
-use Rattle.s66_model.specs.LegalOrder.{is_remaining}
+use Rattle.s66_isa.specs.{every}
+use Rattle.s66_model.specs.{is_remaining}
 use Rattle.s66_checker.proofs.loaded.are_remaining.Given as goal
 
 abbrev pub invariant-loop-n : goal.invariant-loop-n

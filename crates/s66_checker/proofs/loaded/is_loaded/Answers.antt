@@ -1,11 +1,11 @@
-use Rattle.std.proofs.Common.{ℕ, List, Bool, ◌&&◌, ◌∙◌, length, map, ltb, sym, arith}
-use Rattle.std.proofs.lemmas.Bool.{and_left, and_right, le-ltb, eqb-true}
-use Rattle.s66_isa.specs.Lists.{every}
-use Rattle.s66_moments.specs.FactLines.{use_time}
-use Rattle.s66_moments.specs.KnownFacts.{use_of, kind_of_load, are_rising, is_left}
-use Rattle.s66_facts.specs.BlockGround.{known_of as known_in}
+use Rattle.std.proofs.Common.{ℕ, List, Bool, ◌&&◌, ◌∙◌, length, map, ltb, sym, arith, le-ltb, eqb-true}
+use Rattle.std.proofs.lemmas.Bool.{and_left, and_right}
+use Rattle.s66_isa.specs.{every}
+use Rattle.s66_moments.specs.{use_time, use_of, kind_of_load, are_rising, is_left}
+use Rattle.s66_facts.specs.{known_of as known_in}
 use Rattle.s66_checker.proofs.LoadsLeft.{rising-few, gone}
-use Rattle.s66_checker.proofs.loaded.is_loaded.Goals.{then-is_empty-via-then-is_empty, then-is_empty-via-else-is_empty+then-not-are_rising, then-is_empty-via-else-is_empty+else-not-are_rising+then-not-are_remaining}
+use Rattle.s66_checker.proofs.loaded.is_loaded.Goals.{then-is_empty-via-then-is_empty, then-is_empty-via-else-is_empty+then-not-are_rising}
+use Rattle.s66_checker.proofs.loaded.is_loaded.Goals.{then-is_empty-via-else-is_empty+else-not-are_rising+then-not-are_remaining}
 use Rattle.s66_checker.proofs.loaded.is_loaded.Goals as goal
 
 pub returns-then-is_empty : goal.returns-then-is_empty

@@ -1,10 +1,9 @@
-use Rattle.std.proofs.Common.{ℕ, List, length, ap, arith}
+use Rattle.std.proofs.Common.{ℕ, List, length, ap, arith, option_map}
 use Rattle.std.proofs.lemmas.List.{length-map}
-use Rattle.std.specs.Option.{option_map}
-use Rattle.s66_line.specs.InstructionText.{instr_in_text}
-use Rattle.s66_moments.specs.declared.fact_line.FactStep.{FactStep}
-use Rattle.s66_model.specs.Lines.{vertex_of}
-use Rattle.s66_cert.specs.DocumentParts.{document_of}
+use Rattle.s66_model.specs.{vertex_of}
+use Rattle.s66_moments.specs.{FactStep}
+use Rattle.s66_line.specs.{instr_in_text}
+use Rattle.s66_cert.specs.{document_of}
 use Rattle.s66_checker.proofs.LineNodes.{line-before, node-is}
 use Rattle.s66_checker.proofs.name.node_on.Goals as goal
 

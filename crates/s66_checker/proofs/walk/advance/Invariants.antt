@@ -1,5 +1,5 @@
 use Rattle.std.proofs.Common.{◌≡◌, [], length}
-use Rattle.s66_model.specs.Later.{later}
+use Rattle.s66_model.specs.{later}
 use Rattle.s66_checker.proofs.walk.advance.Given as goal
 
 abbrev pub invariant-loop-last : goal.invariant-loop-last

@@ -1,5 +1,5 @@
 use Rattle.std.proofs.Common.{ap}
-use Rattle.s66_model.specs.Lines.{vertex_of}
+use Rattle.s66_model.specs.{vertex_of}
 use Rattle.s66_checker.specs.Checked.{Checked}
 use Rattle.s66_checker.proofs.TreeWalk.{first-ready, first-taken}
 use Rattle.s66_checker.proofs.walk.go_on.Goals as goal

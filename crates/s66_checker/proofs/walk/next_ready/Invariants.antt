@@ -1,5 +1,5 @@
 use Rattle.std.proofs.Common.{◌≡◌, ◌-◌}
-use Rattle.s66_model.specs.Later.{ready_above}
+use Rattle.s66_model.specs.{ready_above}
 use Rattle.s66_checker.proofs.walk.next_ready.Given as goal
 
 -- nothing is ready from n on to the number

@@ -1,15 +1,12 @@
 use Rattle.std.proofs.Common.{◌∙◌, ◌+◌, [], length, refl, sym, ap, arith, inl, inr, true, false, List}
-use Rattle.s66_model.specs.Trees.{Vertex}
-use Rattle.s66_model.specs.DominatedLeaves.{Ending}
-use Rattle.s66_moments.specs.declared.fact_line.FactStep.{FactStep}
-use Rattle.s66_model.specs.Lines.{vertex_of}
-use Rattle.s66_model.specs.Later.{coming}
-use Rattle.s66_cert.specs.DocumentParts.{document_of}
+use Rattle.s66_model.specs.{Vertex, Ending, vertex_of, coming}
+use Rattle.s66_moments.specs.{FactStep}
+use Rattle.s66_cert.specs.{document_of}
 use Rattle.s66_checker.specs.Checked.{Checked}
-use Rattle.s66_checker.specs.Verdict.{problem_of}
+use Rattle.s66_checker.specs.{problem_of}
 use Rattle.s66_checker.proofs.TreeWalk.{line-refused, split-ready, line-passed, none-left, walk-begins, walk-ends}
-use Rattle.s66_checker.proofs.walk.tree_verdict.Goals as goal
 use Rattle.s66_checker.proofs.walk.tree_verdict.Goals.{in-Some+in_default-line_fault+then-not-go_on, in_default}
+use Rattle.s66_checker.proofs.walk.tree_verdict.Goals as goal
 
 pub loop-line-init : goal.loop-line-init
 loop-line-init c =

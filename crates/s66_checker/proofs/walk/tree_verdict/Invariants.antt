@@ -1,10 +1,8 @@
 use Rattle.std.proofs.Common.{◌≡◌, ◌≤◌, ◌+◌, ◌*◌, true, [], length}
-use Rattle.s66_isa.specs.declared.limits.TheConstants.{BLOCK_LIMIT}
-use Rattle.s66_model.specs.Later.{coming}
-use Rattle.s66_cert.specs.DocumentParts.{document_of}
-use Rattle.s66_cert.specs.declared.limits.TheConstants.{SPLIT_LIMIT, FACT_LIMIT}
-use Rattle.s66_cert.specs.Documents.{tree_placed}
-use Rattle.s66_checker.specs.Verdict.{problem_of, lines_verdict, tree_line_number}
+use Rattle.s66_isa.specs.{BLOCK_LIMIT}
+use Rattle.s66_model.specs.{coming}
+use Rattle.s66_cert.specs.{document_of, SPLIT_LIMIT, FACT_LIMIT, tree_placed}
+use Rattle.s66_checker.specs.{problem_of, lines_verdict, tree_line_number}
 use Rattle.s66_checker.proofs.Placed.{placed}
 use Rattle.s66_checker.proofs.walk.tree_verdict.Given as goal
 

@@ -1,6 +1,6 @@
 use Rattle.std.proofs.Common.{sym, subst}
-use Rattle.s66_cert.specs.DocumentParts.{document_of}
-use Rattle.s66_checker.specs.KeptKnown.{HasTails}
+use Rattle.s66_cert.specs.{document_of}
+use Rattle.s66_checker.specs.{HasTails}
 use Rattle.s66_checker.proofs.KnownTails.{has-tails}
 use Rattle.s66_checker.proofs.known.Known.after.Goals as goal
 

@@ -1,9 +1,8 @@
 use Rattle.std.proofs.Common.{◌≡◌, ◌∙◌, true, leb, refl, ap, sym, subst}
-use Rattle.s66_isa.specs.Table.{Row}
-use Rattle.s66_model.specs.Timing.{Problem, row_at, point_of, points_of}
-use Rattle.s66_model.specs.LegalOrder.{is_remaining}
-use Rattle.s66_moments.specs.KnownFacts.{next_value}
-use Rattle.s66_facts.specs.BlockGround.{Ground, known_of as known_in}
+use Rattle.s66_isa.specs.{Row}
+use Rattle.s66_model.specs.{Problem, row_at, point_of, points_of, is_remaining}
+use Rattle.s66_moments.specs.{next_value}
+use Rattle.s66_facts.specs.{Ground, known_of as known_in}
 use Rattle.s66_checker.proofs.KnownTails.{late-is}
 use Rattle.s66_checker.proofs.known.Known.is_late.Goals as goal
 

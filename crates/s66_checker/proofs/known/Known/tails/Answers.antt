@@ -1,11 +1,6 @@
 use Rattle.std.proofs.Common.{◌∙◌, Some, ap, sym, subst}
-use Rattle.s66_moments.specs.declared.moment.Stage.TheVariants.{Issue, Start}
-use Rattle.s66_moments.specs.declared.moment.Moment.TheVariants.{At}
-use Rattle.s66_moments.specs.Facts.{IsNumber}
-use Rattle.s66_moments.specs.Networks.{tail}
-use Rattle.s66_moments.specs.KnownFacts.{arcs_of}
-use Rattle.s66_facts.specs.declared.times.Times.{Times}
-use Rattle.s66_facts.specs.BlockGround.{Ground, known_of as known_in}
+use Rattle.s66_moments.specs.{Issue, Start, At, IsNumber, tail, arcs_of}
+use Rattle.s66_facts.specs.{Times, Ground, known_of as known_in}
 use Rattle.s66_checker.proofs.KnownTails.{issue-tail, start-tail}
 use Rattle.s66_checker.proofs.known.Known.tails.Goals as goal
 

@@ -1,8 +1,7 @@
 use Rattle.std.proofs.Common.{◌≡◌, reverse, drop}
-use Rattle.s66_isa.specs.Lists.{every}
-use Rattle.s66_isa.specs.Table.{copies_of}
-use Rattle.s66_model.specs.Dominance.{free_times}
-use Rattle.s66_checker.specs.Dominating.{are_places_no_later, are_units_no_later}
+use Rattle.s66_isa.specs.{every, copies_of}
+use Rattle.s66_model.specs.{free_times}
+use Rattle.s66_checker.specs.{are_places_no_later, are_units_no_later}
 use Rattle.s66_checker.proofs.replay.dominance.are_all_units_no_later.Given as goal
 
 -- all depends on the kinds that are left

@@ -1,7 +1,7 @@
 use Rattle.std.proofs.Common.{◌≡◌, max, leb, drop}
-use Rattle.s66_isa.specs.Lists.{every}
-use Rattle.s66_model.specs.Timing.{done_of}
-use Rattle.s66_checker.specs.Dominating.{are_operands_no_later}
+use Rattle.s66_isa.specs.{every}
+use Rattle.s66_model.specs.{done_of}
+use Rattle.s66_checker.specs.{are_operands_no_later}
 use Rattle.s66_checker.proofs.replay.dominance.are_operands_no_later.Given as goal
 
 -- all depends on the registers that are left

@@ -1,6 +1,6 @@
 use Rattle.std.proofs.Common.{◌≡◌, drop}
-use Rattle.s66_isa.specs.Lists.{every}
-use Rattle.s66_checker.specs.Dominating.{is_reader_no_later, are_readers_no_later}
+use Rattle.s66_isa.specs.{every}
+use Rattle.s66_checker.specs.{is_reader_no_later, are_readers_no_later}
 use Rattle.s66_checker.proofs.replay.dominance.are_readers_no_later.Given as goal
 
 -- all depends on the writes that are left

@@ -1,5 +1,5 @@
 use Rattle.std.proofs.Common.{arith, ap, ◌∙◌, reverse}
-use Rattle.s66_model.specs.Dominance.{free_times}
+use Rattle.s66_model.specs.{free_times}
 use Rattle.s66_checker.proofs.UnitsNoLater.{places-stated, first-later, one-stated, two-stated}
 use Rattle.s66_checker.proofs.replay.dominance.are_units_no_later.Goals as goal
 

@@ -1,5 +1,5 @@
 use Rattle.std.proofs.Common.{◌∙◌, arith, ap, sym, reverse}
-use Rattle.s66_isa.specs.Table.{Row}
+use Rattle.s66_isa.specs.{Row}
 use Rattle.s66_checker.proofs.FoundNoLater.{results-fail, units-fail, operands-fail, memory-fails, readers-left, results-stated, units-stated, operands-stated, readers-stated, memory-stated}
 use Rattle.s66_checker.proofs.replay.dominance.finds_no_later.Goals as goal
 

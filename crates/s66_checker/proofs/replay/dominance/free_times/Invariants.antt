@@ -1,5 +1,5 @@
 use Rattle.std.proofs.Common.{◌≡◌, ◌≤◌, reverse, take, length}
-use Rattle.s66_model.specs.Dominance.{free_times}
+use Rattle.s66_model.specs.{free_times}
 use Rattle.s66_checker.proofs.replay.dominance.free_times.Given as goal
 
 -- those of the points so far

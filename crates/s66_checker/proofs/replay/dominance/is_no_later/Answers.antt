@@ -1,6 +1,5 @@
 use Rattle.std.proofs.Common.{ℕ, ◌≤◌, ◌≡◌, ◌∙◌, ◌%◌, max, List, leb, reverse, arith, ap, sym}
-use Rattle.s66_model.specs.Timing.{Point, next, next_parcel}
-use Rattle.s66_model.specs.Dominance.{Clamp, stores_wait}
+use Rattle.s66_model.specs.{Point, next, next_parcel, Clamp, stores_wait}
 use Rattle.s66_checker.proofs.WordsNoLater.{writers-stated, readers-stated, references-stated, stores-stated, writers-fail, readers-fail, units-fail, references-fail, stores-left}
 use Rattle.s66_checker.proofs.replay.dominance.is_no_later.Goals as goal
 

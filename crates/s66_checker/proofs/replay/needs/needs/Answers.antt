@@ -1,5 +1,5 @@
 use Rattle.std.proofs.Common.{◌+◌, ◌∙◌, ap, sym, subst, arith}
-use Rattle.s66_isa.specs.Lists.{has}
+use Rattle.s66_isa.specs.{has}
 use Rattle.s66_checker.proofs.ReadyByNeeds.{Looked, looked-none, looked-next, looked-past, looked-all}
 use Rattle.s66_checker.proofs.replay.needs.needs.Goals.{then-depends, else-depends}
 use Rattle.s66_checker.proofs.replay.needs.needs.Goals as goal

@@ -1,9 +1,6 @@
 use Rattle.std.proofs.Common.{ℕ, ◌≡◌, ◌≤◌, ◌<◌, ◌+◌, length, get_or}
-use Rattle.s66_isa.specs.declared.limits.TheConstants.{BLOCK_LIMIT}
-use Rattle.s66_model.specs.Dependence.{depends}
-use Rattle.s66_isa.specs.Lists.{has}
-use Rattle.s66_isa.specs.Members.{numbers_in}
-use Rattle.s66_isa.specs.declared.set.Set.{Set}
+use Rattle.s66_isa.specs.{BLOCK_LIMIT, has, numbers_in, Set}
+use Rattle.s66_model.specs.{depends}
 use Rattle.s66_checker.proofs.replay.needs.needs_of_all.Given as goal
 
 abbrev pub invariant-loop-position : goal.invariant-loop-position

@@ -1,5 +1,5 @@
 use Rattle.std.proofs.Common.{◌≡◌, drop}
-use Rattle.s66_model.specs.Dependence.{share}
+use Rattle.s66_model.specs.{share}
 use Rattle.s66_checker.proofs.replay.needs.share.Given as goal
 
 abbrev pub invariant-loop-register : goal.invariant-loop-register

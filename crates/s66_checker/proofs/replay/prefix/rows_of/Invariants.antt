@@ -1,5 +1,5 @@
 use Rattle.std.proofs.Common.{◌≡◌, map, take, length}
-use Rattle.s66_isa.specs.Table.{row}
+use Rattle.s66_isa.specs.{row}
 use Rattle.s66_checker.proofs.replay.prefix.rows_of.Given as goal
 
 abbrev pub invariant-loop-instr : goal.invariant-loop-instr

@@ -1,6 +1,6 @@
 use Rattle.std.proofs.Common.{◌≡◌, if◌then◌else◌, max, drop}
-use Rattle.s66_isa.specs.Lists.{greatest}
-use Rattle.s66_model.specs.Timing.{ResultAt}
+use Rattle.s66_isa.specs.{greatest}
+use Rattle.s66_model.specs.{ResultAt}
 use Rattle.s66_checker.proofs.replay.result.last_held_time.Given as goal
 
 abbrev pub invariant-loop-done : goal.invariant-loop-done

@@ -1,6 +1,6 @@
 use Rattle.std.proofs.Common.{arith, ◌∙◌, sym, ap, reverse}
-use Rattle.s66_model.specs.Timing.{slot_of}
-use Rattle.s66_checker.specs.KeptPrefix.{with_profile}
+use Rattle.s66_model.specs.{slot_of}
+use Rattle.s66_checker.specs.{with_profile}
 use Rattle.s66_checker.proofs.Issues.{issue-looked}
 use Rattle.s66_checker.proofs.replay.timing.issue.Goals as goal
 

@@ -1,5 +1,5 @@
 use Rattle.std.proofs.Common.{rules, arith, ap, ◌+◌, ◌<◌, ◌^◌}
-use Rattle.s66_model.specs.Timing.{Point}
+use Rattle.s66_model.specs.{Point}
 use Rattle.s66_checker.proofs.KeptPoints.{last-issue, last-parcels}
 use Rattle.s66_checker.proofs.replay.timing.next.Goals as goal
 

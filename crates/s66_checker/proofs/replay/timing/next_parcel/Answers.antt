@@ -1,6 +1,6 @@
 use Rattle.std.proofs.Common.{rules, arith, ap, ◌+◌, ◌<◌, ◌≤◌, ◌^◌}
-use Rattle.s66_model.specs.Timing.{Point}
-use Rattle.s66_checker.specs.KeptPrefix.{TOTAL_LIMIT}
+use Rattle.s66_model.specs.{Point}
+use Rattle.s66_checker.specs.{TOTAL_LIMIT}
 use Rattle.s66_checker.proofs.KeptPoints.{last-issue, last-packed, last-parcels}
 use Rattle.s66_checker.proofs.replay.timing.next_parcel.Goals as goal
 

@@ -1,10 +1,8 @@
 use Rattle.std.proofs.Common.{arith, ap, sym, subst, ◌∙◌, ◌+◌, ◌≤◌, ◌≡◌, ℕ, List, map, reverse}
-use Rattle.s66_isa.specs.Lists.{greatest}
-use Rattle.s66_isa.specs.Table.{Row, Write}
-use Rattle.s66_isa.specs.Rows.{IsInRange}
-use Rattle.s66_model.specs.Timing.{Problem, Point, ResultAt, end_of, start_of, parcel_of, result_at, free_after}
+use Rattle.s66_isa.specs.{greatest, Row, Write, IsInRange}
+use Rattle.s66_model.specs.{Problem, Point, ResultAt, end_of, start_of, parcel_of, result_at, free_after}
 use Rattle.s66_model.proofs.Growth.{start-le, results-le}
-use Rattle.s66_checker.specs.KeptPrefix.{TOTAL_LIMIT, with_profile, AreTimed}
+use Rattle.s66_checker.specs.{TOTAL_LIMIT, with_profile, AreTimed}
 use Rattle.s66_checker.proofs.Reversed.{greatest-reverse}
 use Rattle.s66_checker.proofs.KeptPoints.{latencies-le, timed-small, timed-total}
 use Rattle.s66_checker.proofs.Issues.{results-looked, point-looked}

@@ -1,6 +1,6 @@
 use Rattle.std.proofs.Common.{◌≡◌, max, drop}
-use Rattle.s66_isa.specs.Lists.{greatest}
-use Rattle.s66_model.specs.Timing.{done_of}
+use Rattle.s66_isa.specs.{greatest}
+use Rattle.s66_model.specs.{done_of}
 use Rattle.s66_checker.proofs.replay.timing.registers_done.Given as goal
 
 abbrev pub invariant-loop-register : goal.invariant-loop-register

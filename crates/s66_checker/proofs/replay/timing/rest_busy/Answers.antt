@@ -1,7 +1,7 @@
 use Rattle.std.proofs.Common.{rules, arith, ap, ◌+◌, ◌<◌, ◌^◌}
 use Rattle.std.proofs.lemmas.List.{at_drop_more}
-use Rattle.s66_isa.specs.Lists.{weigh}
-use Rattle.s66_model.specs.Leaves.{rest_busy}
+use Rattle.s66_isa.specs.{weigh}
+use Rattle.s66_model.specs.{rest_busy}
 use Rattle.s66_checker.proofs.KeptPoints.{timed-work}
 use Rattle.s66_checker.proofs.replay.timing.rest_busy.Goals as goal
 

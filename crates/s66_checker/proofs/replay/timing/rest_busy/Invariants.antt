@@ -1,6 +1,6 @@
 use Rattle.std.proofs.Common.{◌≡◌, ◌+◌, drop}
-use Rattle.s66_isa.specs.Lists.{weigh}
-use Rattle.s66_model.specs.Leaves.{rest_busy}
+use Rattle.s66_isa.specs.{weigh}
+use Rattle.s66_model.specs.{rest_busy}
 use Rattle.s66_checker.proofs.replay.timing.rest_busy.Given as goal
 
 abbrev pub invariant-loop-point : goal.invariant-loop-point

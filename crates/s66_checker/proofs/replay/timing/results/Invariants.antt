@@ -1,5 +1,5 @@
 use Rattle.std.proofs.Common.{◌≡◌, map, take}
-use Rattle.s66_model.specs.Timing.{result_at}
+use Rattle.s66_model.specs.{result_at}
 use Rattle.s66_checker.proofs.replay.timing.results.Given as goal
 
 abbrev pub invariant-loop-write : goal.invariant-loop-write

@@ -1,5 +1,5 @@
 use Rattle.std.proofs.Common.{rules, arith, ap, ◌+◌, ◌-◌, ◌<◌, ◌≡◌, ◌^◌, ◌∙◌, sym}
-use Rattle.s66_model.specs.Timing.{Point, parcel_of, slot_of, end_of}
+use Rattle.s66_model.specs.{Point, parcel_of, slot_of, end_of}
 use Rattle.s66_model.proofs.Growth.{slot-le}
 use Rattle.s66_checker.proofs.Reversed.{greatest-reverse, reverse-last}
 use Rattle.s66_checker.proofs.KeptPoints.{timed-small, timed-total}

@@ -1,7 +1,6 @@
 use Rattle.std.proofs.Common.{ℕ, ◌+◌, ◌∙◌, ap, cond, max}
-use Rattle.s66_isa.specs.Lists.{greatest}
-use Rattle.s66_isa.specs.Table.{Row, memory_pair}
-use Rattle.s66_model.specs.Timing.{Point, done_of}
+use Rattle.s66_isa.specs.{greatest, Row, memory_pair}
+use Rattle.s66_model.specs.{Point, done_of}
 use Rattle.s66_checker.proofs.Issues.{start-looked}
 use Rattle.s66_checker.proofs.replay.timing.start.Goals as goal
 

@@ -1,7 +1,6 @@
 use Rattle.std.proofs.Common.{◌≡◌, max, drop}
-use Rattle.s66_isa.specs.Lists.{greatest}
-use Rattle.s66_isa.specs.Table.{Write}
-use Rattle.s66_model.specs.Timing.{done_of}
+use Rattle.s66_isa.specs.{greatest, Write}
+use Rattle.s66_model.specs.{done_of}
 use Rattle.s66_checker.proofs.replay.timing.writes_done.Given as goal
 
 abbrev pub invariant-loop-write : goal.invariant-loop-write

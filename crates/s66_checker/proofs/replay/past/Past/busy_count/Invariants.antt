@@ -1,6 +1,6 @@
 use Rattle.std.proofs.Common.{◌≡◌, ◌≤◌, ◌+◌, drop}
-use Rattle.s66_isa.specs.Lists.{tally}
-use Rattle.s66_model.specs.Timing.{busy_at}
+use Rattle.s66_isa.specs.{tally}
+use Rattle.s66_model.specs.{busy_at}
 use Rattle.s66_checker.proofs.replay.past.Past.busy_count.Given as goal
 
 -- those so far and those of the rest are all

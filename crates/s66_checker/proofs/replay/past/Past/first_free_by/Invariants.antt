@@ -1,6 +1,6 @@
 use Rattle.std.proofs.Common.{◌-◌, ◌≤◌, ◌<◌, ℕ}
-use Rattle.s66_isa.specs.Lists.{tally}
-use Rattle.s66_model.specs.Timing.{busy_at}
+use Rattle.s66_isa.specs.{tally}
+use Rattle.s66_model.specs.{busy_at}
 use Rattle.s66_checker.proofs.replay.past.Past.first_free_by.Given as goal
 
 -- the first time isn't before the low end, and a unit is free at the high end

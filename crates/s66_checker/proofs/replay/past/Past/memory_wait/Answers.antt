@@ -1,8 +1,6 @@
 use Rattle.std.proofs.Common.{ℕ, ◌+◌, ◌∙◌, cond, ap, sym}
-use Rattle.s66_isa.specs.Lists.{greatest}
-use Rattle.s66_isa.specs.Table.{memory_pair}
-use Rattle.s66_isa.specs.declared.instr.Memory.{Memory}
-use Rattle.s66_model.specs.Timing.{Point}
+use Rattle.s66_isa.specs.{greatest, memory_pair, Memory}
+use Rattle.s66_model.specs.{Point}
 use Rattle.s66_checker.proofs.WordsOfPoints.{none-waits}
 use Rattle.s66_checker.proofs.replay.past.Past.memory_wait.Goals as goal
 

@@ -1,7 +1,6 @@
 use Rattle.std.proofs.Common.{◌≡◌, if◌then◌else◌, max, drop}
-use Rattle.s66_isa.specs.Lists.{greatest}
-use Rattle.s66_isa.specs.Table.{same_reg}
-use Rattle.s66_model.specs.Timing.{ResultAt}
+use Rattle.s66_isa.specs.{greatest, same_reg}
+use Rattle.s66_model.specs.{ResultAt}
 use Rattle.s66_checker.proofs.replay.point.KeptPoint.done_at.Given as goal
 
 abbrev pub invariant-loop-done : goal.invariant-loop-done

@@ -1,8 +1,7 @@
 use Rattle.std.proofs.Common.{◌∙◌, arith, ap, sym, subst}
-use Rattle.s66_model.specs.declared.rule.Rule.{Rule}
-use Rattle.s66_model.specs.Timing.{Problem, next, total_of}
+use Rattle.s66_model.specs.{Rule, Problem, next, total_of}
 use Rattle.s66_checker.specs.Checked.{Checked}
-use Rattle.s66_checker.specs.Dominating.{dominates_by}
+use Rattle.s66_checker.specs.{dominates_by}
 use Rattle.s66_checker.proofs.AheadOf.{apart-never}
 use Rattle.s66_checker.proofs.PrefixSteps.{prefix-timed}
 use Rattle.s66_checker.proofs.TwoPrefixes.{Keeps, keeps, later-total, written-stated, clamped-stated}

@@ -1,7 +1,6 @@
-use Rattle.std.proofs.Common.{ℕ, ◌-◌, ◌≤◌, ◌≡◌, ◌∙◌, List, length, take, drop, arith, ap}
-use Rattle.std.proofs.lemmas.List.{take_all, length-drop}
+use Rattle.std.proofs.Common.{ℕ, ◌-◌, ◌≤◌, ◌≡◌, ◌∙◌, List, length, take, drop, arith, ap, take_all, length-drop}
 use Rattle.s66_checker.specs.Checked.{Checked}
-use Rattle.s66_checker.specs.Dominating.{is_beginning_after}
+use Rattle.s66_checker.specs.{is_beginning_after}
 use Rattle.s66_checker.proofs.GoingTo.{front-goes, front-alone}
 use Rattle.s66_checker.proofs.replay.prefix.Prefix.go_to.Goals as goal
 

@@ -1,5 +1,5 @@
 use Rattle.std.proofs.Common.{◌≡◌, ◌≤◌, ◌+◌, [], length, take, drop}
-use Rattle.s66_checker.specs.Dominating.{is_beginning_after}
+use Rattle.s66_checker.specs.{is_beginning_after}
 use Rattle.s66_checker.proofs.replay.prefix.Prefix.go_to.Given as goal
 
 -- the numbers that are shared are still there

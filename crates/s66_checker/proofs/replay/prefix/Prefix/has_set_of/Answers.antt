@@ -1,6 +1,6 @@
 use Rattle.std.proofs.Common.{subst}
 use Rattle.s66_isa.proofs.SetBits.{same-inside}
-use Rattle.s66_model.specs.Timing.{Problem}
+use Rattle.s66_model.specs.{Problem}
 use Rattle.s66_checker.specs.Checked.{Checked}
 use Rattle.s66_checker.proofs.TwoPrefixes.{Keeps, keeps, same-stated}
 use Rattle.s66_checker.proofs.replay.prefix.Prefix.has_set_of.Goals as goal

@@ -1,8 +1,8 @@
 use Rattle.std.proofs.Common.{ℕ, ◌≤◌, ◌<◌, ◌≡◌, List, ltb, ◌⊎◌, ◌∙◌, length, get_or, ap, sym, arith, inl, inr}
 use Rattle.s66_checker.specs.Checked.{Checked}
 use Rattle.s66_checker.proofs.Earlier.{differ-tells, same-never}
-use Rattle.s66_checker.proofs.replay.prefix.Prefix.is_after.Goals as goal
 use Rattle.s66_checker.proofs.replay.prefix.Prefix.is_after.Goals.{then-shared-own-via-then-shared-own, then-shared-own-via-else-shared-own+then-shared-numbers}
+use Rattle.s66_checker.proofs.replay.prefix.Prefix.is_after.Goals as goal
 
 pub returns-then-shared-own : goal.returns-then-shared-own
 returns-then-shared-own c =

@@ -1,5 +1,5 @@
 use Rattle.std.proofs.Common.{ap}
-use Rattle.s66_isa.specs.Lists.{has}
+use Rattle.s66_isa.specs.{has}
 use Rattle.s66_checker.proofs.PrefixSteps.{prefix-start}
 use Rattle.s66_checker.proofs.replay.prefix.Prefix.new.Goals as goal
 

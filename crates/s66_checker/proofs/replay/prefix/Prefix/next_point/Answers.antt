@@ -1,5 +1,5 @@
 use Rattle.std.proofs.Common.{◌∙◌, ap, sym}
-use Rattle.s66_model.specs.Timing.{row_at, point_of, points_of}
+use Rattle.s66_model.specs.{row_at, point_of, points_of}
 use Rattle.s66_checker.specs.Checked.{Checked}
 use Rattle.s66_checker.proofs.PrefixSteps.{prefix-timed, point-next}
 use Rattle.s66_checker.proofs.replay.prefix.Prefix.next_point.Goals as goal

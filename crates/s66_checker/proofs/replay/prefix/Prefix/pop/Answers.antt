@@ -1,6 +1,6 @@
 use Rattle.std.proofs.Common.{arith, ◌∙◌}
-use Rattle.s66_model.proofs.LegalOrders.{ready-parts}
 use Rattle.s66_isa.proofs.Sets.{without-one}
+use Rattle.s66_model.proofs.LegalOrders.{ready-parts}
 use Rattle.s66_checker.proofs.PrefixSteps.{last-ready, prefix-pop}
 use Rattle.s66_checker.proofs.replay.prefix.Prefix.pop.Goals as goal
 

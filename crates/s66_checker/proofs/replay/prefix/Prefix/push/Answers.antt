@@ -1,6 +1,5 @@
 use Rattle.std.proofs.Common.{arith, ◌∙◌, ap, sym, subst, ◌≡◌, true}
-use Rattle.s66_model.specs.Timing.{point_of, points_of}
-use Rattle.s66_model.specs.LegalOrder.{is_ready}
+use Rattle.s66_model.specs.{point_of, points_of, is_ready}
 use Rattle.s66_model.proofs.LegalOrders.{ready-parts}
 use Rattle.s66_checker.specs.Checked.{Checked}
 use Rattle.s66_checker.proofs.PrefixSteps.{room-left, prefix-push}

@@ -1,5 +1,5 @@
 use Rattle.std.proofs.Common.{ℕ, List, ◌≡◌, ◌∙◌, take, ap, sym, subst}
-use Rattle.s66_model.specs.LegalOrder.{IsBeginning}
+use Rattle.s66_model.specs.{IsBeginning}
 use Rattle.s66_checker.specs.Checked.{Checked}
 use Rattle.s66_checker.proofs.GoingTo.{front-begins}
 use Rattle.s66_checker.proofs.replay.prefix.Prefix.shared_with.Goals as goal

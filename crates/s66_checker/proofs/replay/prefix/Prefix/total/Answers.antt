@@ -1,5 +1,5 @@
 use Rattle.std.proofs.Common.{◌∙◌, ap, sym}
-use Rattle.s66_model.specs.Timing.{end_of, total, total_of}
+use Rattle.s66_model.specs.{end_of, total, total_of}
 use Rattle.s66_checker.specs.Checked.{Checked}
 use Rattle.s66_checker.proofs.Reversed.{greatest-reverse}
 use Rattle.s66_checker.proofs.replay.prefix.Prefix.total.Goals as goal

@@ -1,5 +1,5 @@
 use Rattle.std.proofs.Common.{ap, ◌∙◌, ◌≡◌, max, set, get_or, length, ◌<◌, subst, rules}
-use Rattle.s66_isa.specs.Registers.{index_of, word_of}
+use Rattle.s66_isa.specs.{index_of, word_of}
 use Rattle.s66_isa.proofs.RegisterBits.{raised-word}
 use Rattle.s66_checker.proofs.replay.words.RegisterWords.raise.Goals as goal
 

@@ -1,4 +1,4 @@
-use Rattle.s66_isa.specs.Registers.{word_of}
+use Rattle.s66_isa.specs.{word_of}
 use Rattle.s66_checker.proofs.WordsOfPoints.{raised-next}
 use Rattle.s66_checker.proofs.replay.words.RegisterWords.raise_all.Goals as goal
 

@@ -1,6 +1,6 @@
 use Rattle.std.proofs.Common.{◌≡◌, ◌≤◌, if◌then◌else◌, max, drop}
-use Rattle.s66_isa.specs.Table.{Reg, has_reg}
-use Rattle.s66_isa.specs.Registers.{word_of}
+use Rattle.s66_isa.specs.Table.{Reg}
+use Rattle.s66_isa.specs.{has_reg, word_of}
 use Rattle.s66_checker.proofs.replay.words.RegisterWords.raise_all.Given as goal
 
 abbrev pub invariant-loop-register : goal.invariant-loop-register

@@ -1,8 +1,7 @@
 use Rattle.std.proofs.Common.{◌≡◌, ◌≤◌, if◌then◌else◌, max, drop}
-use Rattle.s66_isa.specs.Lists.{greatest}
-use Rattle.s66_isa.specs.Table.{Reg, same_reg}
-use Rattle.s66_model.specs.Timing.{ResultAt}
-use Rattle.s66_isa.specs.Registers.{word_of}
+use Rattle.s66_isa.specs.{greatest, same_reg, word_of}
+use Rattle.s66_isa.specs.Table.{Reg}
+use Rattle.s66_model.specs.{ResultAt}
 use Rattle.s66_checker.proofs.replay.words.RegisterWords.raise_results.Given as goal
 
 abbrev pub invariant-loop-done : goal.invariant-loop-done

@@ -1,10 +1,7 @@
 use Rattle.std.proofs.Common.{ℕ, ◌+◌, ◌<◌, ◌≡◌, ◌∙◌, cond, max, List, set, get_or, length, ltb, ap, sym, subst, rules}
-use Rattle.s66_isa.specs.declared.reg.Reg.{Reg}
-use Rattle.s66_isa.specs.Lists.{greatest}
-use Rattle.s66_isa.specs.Table.{same_reg, has_reg, kind_number}
-use Rattle.s66_model.specs.Timing.{ResultAt}
-use Rattle.s66_isa.specs.Registers.{word_of}
-use Rattle.s66_checker.specs.PastWords.{never_busy, AreFree}
+use Rattle.s66_isa.specs.{Reg, greatest, same_reg, has_reg, kind_number, word_of}
+use Rattle.s66_model.specs.{ResultAt}
+use Rattle.s66_checker.specs.{never_busy, AreFree}
 use Rattle.s66_checker.proofs.WordsOfPoints.{words-push}
 use Rattle.s66_checker.proofs.replay.words.Words.push.Goals as goal
 
