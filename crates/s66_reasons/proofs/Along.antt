@@ -1,23 +1,16 @@
 -- A longest path as it is found, arc by arc: it leads to the end, and takes as long as the end comes later at least.
-use Rattle.std.proofs.Common.{ℕ, zero, suc, ◌≡◌, ◌≤◌, ◌<◌, ◌∙◌, ◌+◌, ◌-◌, ◌⊎◌, Bool, true, false, true≢false, cond, List, [], ◌∷◌, length, Option, None, Some, inl, inr, ap, arith, refl, subst, sym}
-use Rattle.std.specs.Prelude.{is_some, unwrap_or}
 use Rattle.std.specs.Option.{option_or}
-use Rattle.std.proofs.lemmas.Bool.{le-leb, leb-true}
-use Rattle.s66_isa.specs.Lists.{Among}
-use Rattle.s66_model.specs.Timing.{Problem}
-use Rattle.s66_moments.specs.declared.moment.Moment.{Moment}
-use Rattle.s66_moments.specs.declared.moment.Moment.TheVariants.{Origin, At, End}
-use Rattle.s66_moments.specs.Paths.{Hop as Step, waits}
-use Rattle.s66_moments.specs.Networks.{IsRising, IsNetworkPath, most_arcs, targets}
-use Rattle.s66_moments.specs.KnownFacts.{plus, reaches}
+use Rattle.std.proofs.Common.{ℕ, zero, suc, ◌≡◌, ◌≤◌, ◌<◌, ◌∙◌, ◌+◌, ◌-◌, ◌⊎◌, Bool, true, false, true≢false, cond, List, [], ◌∷◌, length, Option, None, Some, inl, inr, ap, arith, refl, subst, sym}
+use Rattle.std.proofs.Common.{is_some, unwrap_or, le-leb, leb-true}
+use Rattle.s66_isa.specs.{Among}
+use Rattle.s66_model.specs.{Problem}
+use Rattle.s66_moments.specs.{Moment, Origin, At, End, Hop as Step, waits, IsRising, IsNetworkPath, most_arcs, targets, plus, reaches}
 use Rattle.s66_moments.proofs.TableArcs.{Some-same, None-none}
 use Rattle.s66_moments.proofs.Tails.{arc-some}
 use Rattle.s66_moments.proofs.Spans.{height, plus-some, span-high, span-path}
-use Rattle.s66_cert.specs.Documents.{Document}
-use Rattle.s66_checker.specs.Verdict.{problem_of}
-use Rattle.s66_reasons.specs.declared.hop.Hop.{Hop}
-use Rattle.s66_reasons.specs.LongestPaths.{arcs, first_hop, hop_and, hop_to, hops_from, next_hop, to_end}
-use Rattle.s66_reasons.specs.Shown.{IsAlong, sum_of}
+use Rattle.s66_cert.specs.{Document}
+use Rattle.s66_checker.specs.{problem_of}
+use Rattle.s66_reasons.specs.{Hop, arcs, first_hop, hop_and, hop_to, hops_from, next_hop, to_end, IsAlong, sum_of}
 
 -- OPTIONS
 

@@ -1,41 +1,28 @@
 -- What is known of a document whose verdict is yes, and of each leaf of its tree.
 use Rattle.std.proofs.Common.{ℕ, suc, zero, ◌≡◌, ◌≤◌, ◌<◌, ◌+◌, ◌*◌, ◌&&◌, ◌∙◌, Bool, true, false, true≢false, cond, not, List, [], ◌∷◌, None, Some, inl, inr, length, map, sym, slice_get, arith}
-use Rattle.std.specs.Prelude.{nat_le, nat_lt}
-use Rattle.std.proofs.lemmas.Bool.{and_parts, cases_Bool, leb-true, ltb-true, not-false}
+use Rattle.std.proofs.Common.{nat_le, nat_lt, leb-true, ltb-true}
+use Rattle.std.proofs.lemmas.Bool.{and_parts, cases_Bool, not-false}
 use Rattle.std.proofs.lemmas.List.{length-map}
 use Rattle.std.proofs.lemmas.Option.{slice_get_cases}
-use Rattle.s66_isa.specs.declared.instr.Kind.{Kind}
-use Rattle.s66_isa.specs.declared.limits.TheConstants.{BLOCK_LIMIT}
-use Rattle.s66_isa.specs.Lists.{Among, every, has}
-use Rattle.s66_model.specs.Timing.{Problem}
-use Rattle.s66_model.specs.LegalOrder.{IsBeginning, is_remaining}
-use Rattle.s66_model.specs.Leaves.{Leaf, Whole, Chain, Load, Parcels, IsWalk, IsChain, MayStand, value}
-use Rattle.s66_model.specs.Trees.{Vertex, AtTerminal, AtSplit}
-use Rattle.s66_model.specs.DominatedLeaves.{Ending, Bounding, Dominated, Factual}
-use Rattle.s66_model.specs.FactLeaves.{Next, Turned, AtLine, LoadFrom}
+use Rattle.s66_isa.specs.{Kind, BLOCK_LIMIT, Among, every, has}
+use Rattle.s66_isa.proofs.Lists.{got-among}
+use Rattle.s66_model.specs.{Problem, IsBeginning, is_remaining, Leaf, Whole, Chain, Load, Parcels, IsWalk, IsChain, MayStand, value, Vertex, AtTerminal, AtSplit, Ending, Bounding, Dominated, Factual}
+use Rattle.s66_model.specs.{Next, Turned, AtLine, LoadFrom}
 use Rattle.s66_model.proofs.Remaining.{remaining-parts}
-use Rattle.s66_line.specs.InstructionText.{instr_in_text}
-use Rattle.s66_moments.specs.Facts.{IsNumber}
-use Rattle.s66_moments.specs.FactLines.{use_time}
-use Rattle.s66_moments.specs.KnownFacts.{Known, are_rising, is_left, is_loaded, is_number, is_turned, kind_of_load, next_value, use_of}
-use Rattle.s66_cert.specs.Documents.{Document, IsDocument, tree_placed}
-use Rattle.s66_cert.specs.declared.limits.TheConstants.{SPLIT_LIMIT}
-use Rattle.s66_checker.specs.Dominating.{is_beginning}
+use Rattle.s66_moments.specs.{IsNumber, use_time, Known, are_rising, is_left, is_loaded, is_number, is_turned, kind_of_load, next_value, use_of}
+use Rattle.s66_line.specs.{instr_in_text}
+use Rattle.s66_cert.specs.{Document, IsDocument, tree_placed, SPLIT_LIMIT}
+use Rattle.s66_checker.specs.{is_beginning, Yes, Reason as FaultOf, is_complete, known_of, line_fault, problem_of, verdict, AreTaken}
+use Rattle.s66_checker.specs.declared.verdict.Reason.TheVariants as fault
 use Rattle.s66_checker.proofs.GoingTo.{goes_on-Decides}
 use Rattle.s66_checker.proofs.ReadyByNeeds.{beginning-few}
-use Rattle.s66_checker.specs.declared.verdict.Verdict.TheVariants.{Yes}
-use Rattle.s66_checker.specs.declared.verdict.Reason.{Reason as FaultOf}
-use Rattle.s66_checker.specs.declared.verdict.Reason.TheVariants as fault
-use Rattle.s66_checker.specs.Verdict.{is_complete, known_of, line_fault, problem_of, verdict}
-use Rattle.s66_checker.specs.KeptKnown.{AreTaken}
 use Rattle.s66_checker.proofs.Faultless.{leaf-shows, passed}
 use Rattle.s66_checker.proofs.GrantedClaims.{granted}
 use Rattle.s66_checker.proofs.LoadsLeft.{gone, rising-few}
 use Rattle.s66_checker.proofs.Placed.{few-lines}
 use Rattle.s66_checker.proofs.TreeClaims.{tree-shows}
-use Rattle.s66_reasons.specs.Within.{AreWithin, IsFaultless, IsGranted, IsRight, is_split}
+use Rattle.s66_reasons.specs.{AreWithin, IsFaultless, IsGranted, IsRight, is_split}
 use Rattle.s66_reasons.proofs.Leaves.{tree-count, tree-each, tree-fit, tree-short}
-use Rattle.s66_isa.proofs.Lists.{got-among}
 
 pub faultless : (limit : ℕ) (d : Document) (time bound : ℕ) → IsDocument limit d → verdict d ≡ Yes time bound → AreTaken d × IsFaultless d
 faultless limit d time bound is holds =

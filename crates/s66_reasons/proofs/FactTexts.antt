@@ -1,19 +1,11 @@
 -- What is granted of fact lines that are taken, and why a pair is forced.
-use Rattle.std.proofs.Common.{ℕ, ◌≡◌, ◌&&◌, ◌∙◌, Bool, true, false, List, [], ◌∷◌, Option, Some, ap, sym, refl, map}
-use Rattle.std.specs.Prelude.{unwrap_or}
+use Rattle.std.proofs.Common.{ℕ, ◌≡◌, ◌&&◌, ◌∙◌, Bool, true, false, List, [], ◌∷◌, Option, Some, ap, sym, refl, map, unwrap_or}
 use Rattle.std.proofs.lemmas.Bool.{and_parts, cond-true, cond-false}
-use Rattle.s66_isa.specs.declared.instr.Kind.{Kind}
-use Rattle.s66_isa.specs.Lists.{every}
-use Rattle.s66_isa.specs.Table.{same_kind}
-use Rattle.s66_model.specs.Timing.{Problem, row_at}
-use Rattle.s66_model.specs.LegalOrder.{is_remaining}
-use Rattle.s66_moments.specs.declared.moment.Stage.TheVariants.{Issue, Free}
-use Rattle.s66_moments.specs.declared.moment.Moment.TheVariants.{Origin, At, End}
-use Rattle.s66_moments.specs.declared.fact_line.LoadLine.{LoadLine}
-use Rattle.s66_moments.specs.FactLines.{use_time}
-use Rattle.s66_moments.specs.Networks.{Network}
-use Rattle.s66_moments.specs.KnownFacts.{Known, arcs_of, are_used, is_late_by_parcels, is_load_taken, is_number, is_used, kind_of_load, plus, reaches, span, use_of}
-use Rattle.s66_reasons.specs.FactWords.{by_parcels, by_unit, late_words, soonest_known}
+use Rattle.s66_isa.specs.{Kind, every, same_kind}
+use Rattle.s66_model.specs.{Problem, row_at, is_remaining}
+use Rattle.s66_moments.specs.{Issue, Free, Origin, At, End, LoadLine, use_time, Network, Known, arcs_of, are_used, is_late_by_parcels, is_load_taken, is_number, is_used, kind_of_load, plus, reaches}
+use Rattle.s66_moments.specs.{span, use_of}
+use Rattle.s66_reasons.specs.{by_parcels, by_unit, late_words, soonest_known}
 
 -- the instructions of a load are those of the block
 used-remain : (b : Problem) (arcs : Network) (line : LoadLine) (kind : Kind) (time : ℕ) (ns : List ℕ) → every (is_used b arcs line kind time) ns ≡ true → every (is_remaining b.block []) ns ≡ true

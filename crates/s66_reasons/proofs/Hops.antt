@@ -1,18 +1,13 @@
 -- The next arc of a longest path is found number by number, and its rows come before those of the arcs after it.
-use Rattle.std.proofs.Common.{ℕ, suc, ◌≡◌, ◌∙◌, ◌+◌, ◌-◌, ◌<◌, true, false, true≢false, List, [], ◌∷◌, ◌++◌, Option, None, Some, ap, append_assoc, arith, refl, sym}
-use Rattle.std.specs.Prelude.{is_some}
 use Rattle.std.specs.Option.{option_or}
+use Rattle.std.proofs.Common.{ℕ, suc, ◌≡◌, ◌∙◌, ◌+◌, ◌-◌, ◌<◌, true, false, true≢false, List, [], ◌∷◌, ◌++◌, Option, None, Some, ap, append_assoc, arith, refl, sym, is_some, append-nil}
 use Rattle.std.proofs.lemmas.Grind.{flat_map-append}
-use Rattle.std.proofs.lemmas.List.{append-nil}
-use Rattle.s66_isa.specs.Lists.{rising}
-use Rattle.s66_moments.specs.declared.moment.Moment.{Moment}
-use Rattle.s66_moments.specs.Networks.{moments_among, moments_of}
-use Rattle.s66_cert.specs.Documents.{Document}
-use Rattle.s66_checker.specs.Verdict.{problem_of}
-use Rattle.s66_reasons.specs.declared.hop.Hop.{Hop}
-use Rattle.s66_reasons.specs.Words.{row_text, rows_text}
-use Rattle.s66_reasons.specs.LongestPaths.{first_hop, hop_and, hop_rows, hop_to, hops_from, next_hop, path_rows}
+use Rattle.s66_isa.specs.{rising}
 use Rattle.s66_isa.proofs.Lists.{rising-next}
+use Rattle.s66_moments.specs.{Moment, moments_among, moments_of}
+use Rattle.s66_cert.specs.{Document}
+use Rattle.s66_checker.specs.{problem_of}
+use Rattle.s66_reasons.specs.{Hop, row_text, rows_text, first_hop, hop_and, hop_rows, hop_to, hops_from, next_hop, path_rows}
 
 -- THE FIRST OF SEVERAL
 

@@ -1,25 +1,14 @@
 -- The arcs by all that is known are those of the table with the loads that fact lines leave known.
-use Rattle.std.proofs.Common.{ℕ, ◌≡◌, ◌∙◌, true, true≢false, List, [], ◌∷◌, ◌++◌, Option, None, Some, ap, ap₂, append_assoc, arith, inl, inr, max, refl, sym}
-use Rattle.std.specs.Prelude.{unwrap_or, ◌&&◌}
+use Rattle.std.proofs.Common.{ℕ, ◌≡◌, ◌∙◌, true, true≢false, List, [], ◌∷◌, ◌++◌, Option, None, Some, ap, ap₂, append_assoc, arith, inl, inr, max, refl, sym, unwrap_or, ◌&&◌, append-nil}
 use Rattle.std.proofs.lemmas.Bool.{and_parts, cases_Bool}
-use Rattle.std.proofs.lemmas.List.{append-nil}
-use Rattle.s66_model.specs.Timing.{Problem}
-use Rattle.s66_moments.specs.declared.moment.Moment.{Moment}
-use Rattle.s66_moments.specs.declared.fact_line.FactLine.TheVariants.{Pair, Load}
-use Rattle.s66_moments.specs.declared.fact_line.FactStep.{FactStep}
+use Rattle.s66_model.specs.{Problem}
+use Rattle.s66_moments.specs.{Moment, Pair, Load, FactStep, KnownArc, LoadLine, Network, network, same_moment, with_arc, Known, with_loads as known_with, Supposition, Standing, are_steps_taken}
+use Rattle.s66_moments.specs.{is_step_taken, standing_after, standing_first, with_step}
 use Rattle.s66_moments.specs.declared.fact_line.FactStep.TheVariants.{Fact, Suppose, Refuted}
-use Rattle.s66_moments.specs.declared.fact_line.KnownArc.{KnownArc}
-use Rattle.s66_moments.specs.declared.fact_line.LoadLine.{LoadLine}
-use Rattle.s66_moments.specs.Networks.{Network, network, same_moment, with_arc}
-use Rattle.s66_moments.specs.KnownFacts.{Known, with_loads as known_with}
-use Rattle.s66_moments.specs.Suppositions.{Supposition, Standing, are_steps_taken, is_step_taken, standing_after, standing_first, with_step}
 use Rattle.s66_moments.proofs.MoreArcs.{same_moment-true}
-use Rattle.s66_cert.specs.Documents.{Document}
-use Rattle.s66_checker.specs.KeptKnown.{AreTaken}
-use Rattle.s66_checker.specs.Verdict.{facts_of, known_of, problem_of, standing_of}
-use Rattle.s66_reasons.specs.FactWords.{to_show}
-use Rattle.s66_reasons.specs.LongestPaths.{arcs, each_left, load_left, loads_left, to_show_after}
-use Rattle.s66_reasons.specs.Within.{with_load, with_loads}
+use Rattle.s66_cert.specs.{Document}
+use Rattle.s66_checker.specs.{AreTaken, facts_of, known_of, problem_of, standing_of}
+use Rattle.s66_reasons.specs.{to_show, arcs, each_left, load_left, loads_left, to_show_after, with_load, with_loads}
 
 -- WHAT IS TO BE SHOWN behind a line
 

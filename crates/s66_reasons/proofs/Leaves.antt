@@ -1,12 +1,10 @@
 -- The lines of a tree at their prefixes: what holds of each leaf, how long the prefixes are, and how many lines there are.
 use Rattle.std.proofs.Common.{ℕ, ◌≡◌, ◌≤◌, Bool, false, List, [], ◌∷◌, ◌++◌, length, refl, ap, sym, subst, inl, inr, arith, length-append, ◌∙◌}
 use Rattle.std.proofs.lemmas.Bool.{or_parts}
-use Rattle.s66_isa.specs.declared.instr.Instr.{Instr}
-use Rattle.s66_isa.specs.Lists.{Among, some_of}
-use Rattle.s66_model.specs.Trees.{Tree, Alone, Parted, Siblings, NoMore, Unsplit, Split, Vertex, AtTerminal, AtSplit, SiblingsHold, TreeHolds, flat, flat_siblings}
-use Rattle.s66_model.specs.DominatedLeaves.{Ending}
-use Rattle.s66_cert.specs.Documents.{IsLeafLine, SiblingsFit, TreeFits, siblings_placed, tree_placed}
+use Rattle.s66_isa.specs.{Instr, Among, some_of}
 use Rattle.s66_isa.proofs.Lists.{split-among}
+use Rattle.s66_model.specs.{Tree, Alone, Parted, Siblings, NoMore, Unsplit, Split, Vertex, AtTerminal, AtSplit, SiblingsHold, TreeHolds, flat, flat_siblings, Ending}
+use Rattle.s66_cert.specs.{IsLeafLine, SiblingsFit, TreeFits, siblings_placed, tree_placed}
 
 abbrev Line : Type 0
 Line = List ℕ × Vertex Ending

@@ -1,8 +1,7 @@
 -- Numbers of a list that are said or looked at one after the other in a loop.
-use Rattle.std.proofs.Common.{ℕ, suc, zero, ◌+◌, ◌-◌, ◌≡◌, ◌≤◌, ◌<◌, ◌∙◌, List, [], ◌∷◌, ◌++◌, length, drop, get_or, ap, append_assoc, sym, arith}
-use Rattle.std.proofs.lemmas.List.{at_drop_more, length-drop}
-use Rattle.s66_reasons.specs.Words.{listed, separator}
-use Rattle.s66_reasons.specs.Within.{AreWithin}
+use Rattle.std.proofs.Common.{ℕ, suc, zero, ◌+◌, ◌-◌, ◌≡◌, ◌≤◌, ◌<◌, ◌∙◌, List, [], ◌∷◌, ◌++◌, length, drop, get_or, ap, append_assoc, sym, arith, length-drop}
+use Rattle.std.proofs.lemmas.List.{at_drop_more}
+use Rattle.s66_reasons.specs.{listed, separator, AreWithin}
 
 -- one more is said, and what comes after it
 pub listed-more : (words : ℕ → List ℕ) (ns : List ℕ) (i : ℕ) (old middle new sep : List ℕ) → i < length ns → middle ≡ old ++ words (get_or ns i 0) →

@@ -1,9 +1,8 @@
 -- The pairs that put a number before another are found one by one.
-use Rattle.std.proofs.Common.{ℕ, suc, ◌+◌, ◌-◌, ◌≡◌, ◌<◌, ◌∙◌, true, false, List, [], ◌∷◌, ◌++◌, cond, eqb, ap, append_assoc, arith, sym}
+use Rattle.std.proofs.Common.{ℕ, suc, ◌+◌, ◌-◌, ◌≡◌, ◌<◌, ◌∙◌, true, false, List, [], ◌∷◌, ◌++◌, cond, eqb, ap, append_assoc, arith, sym, append-nil}
 use Rattle.std.proofs.lemmas.Bool.{cond-false, cond-true}
-use Rattle.std.proofs.lemmas.List.{append-nil}
-use Rattle.s66_cert.specs.Documents.{Document}
-use Rattle.s66_reasons.specs.LongestPaths.{pair_from, pairs_over, second_of}
+use Rattle.s66_cert.specs.{Document}
+use Rattle.s66_reasons.specs.{pair_from, pairs_over, second_of}
 
 next-of : (d : Document) (k m n number : ℕ) → number ≡ pair_from d m n →
     pairs_over d (suc k) m n ≡ cond {A = List ℕ} (eqb number 0) [] (number ∷ pairs_over d k (second_of d number) n)

@@ -1,44 +1,25 @@
 -- The rows of a leaf E add up to its longest path, which reaches the bound, and in a faster order no moment of it is sooner.
-use Rattle.std.proofs.Common.{ℕ, ◌≡◌, ◌≤◌, ◌<◌, ◌∙◌, ◌+◌, ◌*◌, ◌⊎◌, Bool, true, false, cond, eqb, List, [], ◌∷◌, ◌++◌, length, map, Some, inl, inr, ap, arith, refl, subst, sym}
-use Rattle.std.proofs.lemmas.Bool.{and_parts, cases_Bool, leb-true, le-leb, or_cases}
-use Rattle.std.specs.Prelude.{nat_le, unwrap_or, ◌&&◌, ◌||◌}
-use Rattle.s66_isa.specs.declared.instr.Kind.{Kind}
-use Rattle.s66_isa.specs.declared.reg.Reg.{Reg}
-use Rattle.s66_isa.specs.Lists.{every, greatest}
-use Rattle.s66_isa.specs.Rows.{held_latency}
-use Rattle.s66_isa.specs.Table.{Write, instr_at, numbers, same_kind, same_reg}
+use Rattle.std.proofs.Common.{ℕ, ◌≡◌, ◌≤◌, ◌<◌, ◌∙◌, ◌+◌, ◌*◌, ◌⊎◌, Bool, true, false, cond, eqb, List, [], ◌∷◌, ◌++◌, length, map, Some, inl, inr, ap, arith, refl, subst, sym, leb-true, le-leb}
+use Rattle.std.proofs.Common.{nat_le, unwrap_or, ◌&&◌, ◌||◌}
+use Rattle.std.proofs.lemmas.Bool.{and_parts, cases_Bool, or_cases}
+use Rattle.s66_isa.specs.{Kind, Reg, every, greatest, held_latency, Write, instr_at, numbers, same_kind, same_reg}
 use Rattle.s66_isa.proofs.Lists.{every-each, greatest-le}
 use Rattle.s66_isa.proofs.GoodRows.{row-good}
-use Rattle.s66_model.specs.Timing.{Problem, ResultAt, free_after, issue_of, point, point_of, result_at, row_at, start_of, total_of}
-use Rattle.s66_model.specs.LegalOrder.{IsLegal, is_remaining}
+use Rattle.s66_model.specs.{Problem, ResultAt, free_after, issue_of, point, point_of, result_at, row_at, start_of, total_of, IsLegal, is_remaining}
 use Rattle.s66_model.proofs.Remaining.{remaining-parts}
-use Rattle.s66_moments.specs.declared.moment.Stage.{Stage}
-use Rattle.s66_moments.specs.declared.moment.Stage.TheVariants.{Issue, Start, Done, Free}
-use Rattle.s66_moments.specs.declared.moment.Moment.{Moment}
-use Rattle.s66_moments.specs.declared.moment.Moment.TheVariants.{Origin, At, End}
-use Rattle.s66_moments.specs.Moments.{has_stage, is_moment, latency_to, own_arc, soonest, time_of}
-use Rattle.s66_moments.specs.Facts.{AreSo, Fact, IsNumber}
-use Rattle.s66_moments.specs.FactLines.{facts_after, use_time}
-use Rattle.s66_moments.specs.Paths.{Hop as Step}
-use Rattle.s66_moments.specs.Networks.{HasOwnArcs, IsRising, most_arcs, moments_of, network, soonest_path, tail}
-use Rattle.s66_moments.specs.KnownFacts.{is_left, is_left_from, kind_of_load, next_value, reaches, use_of}
-use Rattle.s66_moments.specs.Suppositions.{shown_by_all, standing_first}
+use Rattle.s66_moments.specs.{Stage, Issue, Start, Done, Free, Moment, Origin, At, End, has_stage, is_moment, latency_to, own_arc, soonest, time_of, AreSo, Fact, IsNumber, facts_after, use_time}
+use Rattle.s66_moments.specs.{Hop as Step, HasOwnArcs, IsRising, most_arcs, moments_of, network, soonest_path, tail, is_left, is_left_from, kind_of_load, next_value, reaches, use_of, shown_by_all}
+use Rattle.s66_moments.specs.{standing_first}
 use Rattle.s66_moments.proofs.Tails.{all-among, arc-some, own-among, path-tail, tail-reached}
 use Rattle.s66_moments.proofs.KnownLines.{IsSound, arcs-own, arcs-rise, arcs-steps, span-tail}
 use Rattle.s66_moments.proofs.FoundedLines.{lines-so}
 use Rattle.s66_moments.proofs.Steps.{step-so}
 use Rattle.s66_moments.proofs.SupposedLines.{after-stands, closed-sound}
 use Rattle.s66_moments.proofs.Spans.{height-some}
-use Rattle.s66_cert.specs.Documents.{Document}
-use Rattle.s66_checker.specs.KeptKnown.{AreTaken}
-use Rattle.s66_checker.specs.Verdict.{facts_of, known_of, problem_of, standing_of}
-use Rattle.s66_reasons.specs.declared.hop.Hop.{Hop}
-use Rattle.s66_reasons.specs.declared.work.Work.{Work}
-use Rattle.s66_reasons.specs.FactWords.{load_end, work_of_load}
-use Rattle.s66_reasons.specs.Words.{Reason}
-use Rattle.s66_reasons.specs.LongestPaths.{arcs, at_end_words, by_words, hop_rows, hops_of, later_words, load_row, pairs_of, path_rows, table_rows, to_end}
-use Rattle.s66_reasons.specs.Reasons.{issue_row, next_rows}
-use Rattle.s66_reasons.specs.Shown.{AreNoSooner, AreRowsOf, HasNoneSooner, IsAlong, IsLoadShown, IsPathShown, last_number, sum_of}
+use Rattle.s66_cert.specs.{Document}
+use Rattle.s66_checker.specs.{AreTaken, facts_of, known_of, problem_of, standing_of}
+use Rattle.s66_reasons.specs.{Hop, Work, load_end, work_of_load, Reason, arcs, at_end_words, by_words, hop_rows, hops_of, later_words, load_row, pairs_of, path_rows, table_rows, to_end, issue_row}
+use Rattle.s66_reasons.specs.{next_rows, AreNoSooner, AreRowsOf, HasNoneSooner, IsAlong, IsLoadShown, IsPathShown, last_number, sum_of}
 use Rattle.s66_reasons.proofs.Along.{along, along-high, as-path, end-path, rank-along}
 
 -- ROWS

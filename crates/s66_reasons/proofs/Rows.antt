@@ -1,16 +1,10 @@
 -- What the rows of a leaf say of the end is the value of the leaf.
 use Rattle.std.proofs.Common.{ℕ, ◌≡◌, ◌+◌, ◌++◌, List, [], ◌∷◌, map, refl, arith}
-use Rattle.s66_isa.specs.Lists.{least}
-use Rattle.s66_model.specs.Timing.{points_of, row_at}
-use Rattle.s66_model.specs.LegalOrder.{remaining}
-use Rattle.s66_model.specs.Leaves.{Leaf, Whole, Chain, Load, Parcels, MayStand, head, if_last, link, value, walk}
-use Rattle.s66_model.specs.DominatedLeaves.{Bounding}
-use Rattle.s66_cert.specs.Documents.{Document}
-use Rattle.s66_checker.specs.Verdict.{problem_of}
-use Rattle.s66_reasons.specs.Words.{Reason}
-use Rattle.s66_reasons.specs.ChainWords.{start_rows, walk_rows}
-use Rattle.s66_reasons.specs.Reasons.{last_row, leaf_rows}
-use Rattle.s66_reasons.specs.Shown.{end_by, last_number}
+use Rattle.s66_isa.specs.{least}
+use Rattle.s66_model.specs.{points_of, row_at, remaining, Leaf, Whole, Chain, Load, Parcels, MayStand, head, if_last, link, value, walk, Bounding}
+use Rattle.s66_cert.specs.{Document}
+use Rattle.s66_checker.specs.{problem_of}
+use Rattle.s66_reasons.specs.{Reason, start_rows, walk_rows, last_row, leaf_rows, end_by, last_number}
 
 walk-end : (d : Document) (t n : ℕ) (ns : List ℕ) → last_number (walk_rows d t n ns) ≡ t + walk (problem_of d) n ns
 walk-end d t n [] = refl

@@ -1,23 +1,13 @@
 -- The soonest issue of an instruction fits into the machine's numbers with its parcels, since its unit is free no sooner than after both.
-use Rattle.std.proofs.Common.{ℕ, ◌+◌, ◌^◌, ◌<◌, ◌≡◌, ◌∙◌, true, List, [], ◌∷◌, ◌++◌, Option, None, Some, ap, arith, eqb, refl, subst, sym}
-use Rattle.std.specs.Prelude.{unwrap_or}
-use Rattle.std.proofs.lemmas.Bool.{cond-true, eq-eqb, or_left}
-use Rattle.s66_isa.specs.Table.{Row, instr_at}
+use Rattle.std.proofs.Common.{ℕ, ◌+◌, ◌^◌, ◌<◌, ◌≡◌, ◌∙◌, true, List, [], ◌∷◌, ◌++◌, Option, None, Some, ap, arith, eqb, refl, subst, sym, unwrap_or, eq-eqb}
+use Rattle.std.proofs.lemmas.Bool.{cond-true, or_left}
+use Rattle.s66_isa.specs.{Row, instr_at}
 use Rattle.s66_isa.proofs.GoodRows.{row-good}
-use Rattle.s66_model.specs.Timing.{Problem, row_at}
-use Rattle.s66_moments.specs.declared.moment.Stage.{Stage}
-use Rattle.s66_moments.specs.declared.moment.Stage.TheVariants.{Issue, Start, Free}
-use Rattle.s66_moments.specs.declared.moment.Moment.{Moment}
-use Rattle.s66_moments.specs.declared.moment.Moment.TheVariants.{Origin, At}
-use Rattle.s66_moments.specs.Facts.{IsNumber}
-use Rattle.s66_moments.specs.Moments.{arc, has_stage, is_moment, later_arc, own_arc}
-use Rattle.s66_moments.specs.Networks.{Network, is_in_order, network}
-use Rattle.s66_moments.specs.Paths.{Hop as Step}
-use Rattle.s66_moments.specs.KnownFacts.{span}
+use Rattle.s66_model.specs.{Problem, row_at}
+use Rattle.s66_moments.specs.{Stage, Issue, Start, Free, Moment, Origin, At, IsNumber, arc, has_stage, is_moment, later_arc, own_arc, Network, is_in_order, network, Hop as Step, span}
 use Rattle.s66_moments.proofs.NextLeaves.{path-join, waits-join}
 use Rattle.s66_moments.proofs.Spans.{height, some-height, span-high, span-path}
-use Rattle.s66_facts.specs.Marked.{before_in}
-use Rattle.s66_facts.specs.BlockGround.{Ground, IsAcyclic, ground_arcs}
+use Rattle.s66_facts.specs.{before_in, Ground, IsAcyclic, ground_arcs}
 use Rattle.s66_facts.proofs.Edges.{HasArc, is-stage, loads-longer, rises}
 
 module _ (g : Ground) (ordered : IsAcyclic g) (n : ℕ) (number : IsNumber g.problem n) where

@@ -1,12 +1,10 @@
 -- The first line of a tree, and how many of its lines are splits.
 use Rattle.std.proofs.Common.{◌≡◌, ◌≤◌, ◌∙◌, refl, ap, sym, arith}
-use Rattle.s66_isa.specs.Lists.{tally}
+use Rattle.s66_isa.specs.{tally}
 use Rattle.s66_isa.proofs.Lists.{tally-append}
-use Rattle.s66_model.specs.Trees.{Tree, Alone, Parted, Siblings, NoMore, Unsplit, Split, flat, flat_siblings, splits, sibling_splits}
-use Rattle.s66_model.specs.DominatedLeaves.{Ending}
-use Rattle.s66_cert.specs.declared.limits.TheConstants.{SPLIT_LIMIT}
-use Rattle.s66_cert.specs.DocumentParts.{Parts, AreWhole, document_of}
-use Rattle.s66_reasons.specs.Within.{is_split}
+use Rattle.s66_model.specs.{Tree, Alone, Parted, Siblings, NoMore, Unsplit, Split, flat, flat_siblings, splits, sibling_splits, Ending}
+use Rattle.s66_cert.specs.{SPLIT_LIMIT, Parts, AreWhole, document_of}
+use Rattle.s66_reasons.specs.{is_split}
 
 siblings-splits : (siblings : Siblings Ending) → tally is_split (flat_siblings siblings) ≡ sibling_splits siblings
 siblings-splits NoMore = refl

@@ -1,19 +1,15 @@
 -- What is said of fact lines, one after the other, and which instruction is too late by what is known.
 use Rattle.std.proofs.Common.{ℕ, ◌+◌, ◌-◌, ◌≡◌, ◌≤◌, ◌<◌, ◌∙◌, true, false, List, ◌∷◌, ◌++◌, IfSome, Option, None, Some, ap, append_assoc, arith, drop, get_or, length, refl, sym}
 use Rattle.std.proofs.lemmas.Bool.{and_parts}
-use Rattle.s66_isa.specs.Lists.{rising}
-use Rattle.s66_model.specs.Timing.{Problem}
-use Rattle.s66_moments.specs.declared.fact_line.FactStep.{FactStep}
-use Rattle.s66_moments.specs.declared.fact_line.FactStep.TheVariants.{Fact, Suppose, Refuted}
-use Rattle.s66_moments.specs.Facts.{IsNumber}
-use Rattle.s66_moments.specs.Networks.{Network}
-use Rattle.s66_moments.specs.Suppositions.{Standing, are_steps_taken, is_late_through, is_step_taken, may_be_supposed, with_step}
-use Rattle.s66_moments.proofs.SupposedLines.{supposed-parts}
-use Rattle.s66_cert.specs.Documents.{Document}
-use Rattle.s66_cert.proofs.Printed.{drop-here}
-use Rattle.s66_reasons.specs.FactWords.{facts_from, late_number, numbered_step}
-use Rattle.s66_reasons.specs.LongestPaths.{to_show_after}
+use Rattle.s66_isa.specs.{rising}
 use Rattle.s66_isa.proofs.Lists.{rising-next}
+use Rattle.s66_model.specs.{Problem}
+use Rattle.s66_moments.specs.{FactStep, IsNumber, Network, Standing, are_steps_taken, is_late_through, is_step_taken, may_be_supposed, with_step}
+use Rattle.s66_moments.specs.declared.fact_line.FactStep.TheVariants.{Fact, Suppose, Refuted}
+use Rattle.s66_moments.proofs.SupposedLines.{supposed-parts}
+use Rattle.s66_cert.specs.{Document}
+use Rattle.s66_cert.proofs.Printed.{drop-here}
+use Rattle.s66_reasons.specs.{facts_from, late_number, numbered_step, to_show_after}
 
 -- LINES
 

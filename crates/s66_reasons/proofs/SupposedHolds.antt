@@ -1,24 +1,11 @@
 -- What is known after steps that are taken, each faster order has that has what is supposed; and at the end of a supposition none has.
-use Rattle.std.proofs.Common.{ℕ, ◌+◌, ◌≡◌, ◌≤◌, ◌<◌, Bool, true, true≢false, ◌&&◌, List, [], ◌∷◌, Option, None, Some, ap, arith, inl, inr, leb, refl, sym}
-use Rattle.std.proofs.lemmas.Bool.{and_parts, cases_Bool, leb-true, ltb-false, ltb-true, or_cases}
-use Rattle.std.specs.Prelude.{nat_lt}
-use Rattle.s66_isa.specs.Lists.{Among, some_of}
-use Rattle.s66_isa.specs.Table.{numbers}
-use Rattle.s66_model.specs.Timing.{Problem, total_of}
-use Rattle.s66_model.specs.LegalOrder.{IsLegal}
-use Rattle.s66_moments.specs.declared.moment.Stage.{Stage}
-use Rattle.s66_moments.specs.declared.moment.Stage.TheVariants.{Issue, Start}
-use Rattle.s66_moments.specs.declared.moment.Moment.{Moment}
-use Rattle.s66_moments.specs.declared.moment.Moment.TheVariants.{Origin, At, End}
-use Rattle.s66_moments.specs.declared.fact_line.FactStep.{FactStep}
+use Rattle.std.proofs.Common.{ℕ, ◌+◌, ◌≡◌, ◌≤◌, ◌<◌, Bool, true, true≢false, ◌&&◌, List, [], ◌∷◌, Option, None, Some, ap, arith, inl, inr, leb, refl, sym, leb-true, ltb-false, ltb-true, nat_lt}
+use Rattle.std.proofs.lemmas.Bool.{and_parts, cases_Bool, or_cases}
+use Rattle.s66_isa.specs.{Among, some_of, numbers}
+use Rattle.s66_model.specs.{Problem, total_of, IsLegal}
+use Rattle.s66_moments.specs.{Stage, Issue, Start, Moment, Origin, At, End, FactStep, KnownArc, time_of, AreSo, Arc, Before, Fact as FactOf, NoOrder, fact_of, Network, same_moment, Known, arcs_of}
+use Rattle.s66_moments.specs.{line_of, plus, span, Standing, Supposition, are_steps_taken, is_late, is_late_at, is_late_load, is_late_through, is_step_taken, standing_after, standing_first, with_step}
 use Rattle.s66_moments.specs.declared.fact_line.FactStep.TheVariants.{Fact, Suppose, Refuted}
-use Rattle.s66_moments.specs.declared.fact_line.KnownArc.{KnownArc}
-use Rattle.s66_moments.specs.Moments.{time_of}
-use Rattle.s66_moments.specs.Facts.{AreSo, Arc, Before, Fact as FactOf, NoOrder}
-use Rattle.s66_moments.specs.FactLines.{fact_of}
-use Rattle.s66_moments.specs.Networks.{Network, same_moment}
-use Rattle.s66_moments.specs.KnownFacts.{Known, arcs_of, line_of, plus, span}
-use Rattle.s66_moments.specs.Suppositions.{Standing, Supposition, are_steps_taken, is_late, is_late_at, is_late_load, is_late_through, is_step_taken, standing_after, standing_first, with_step}
 use Rattle.s66_moments.proofs.FactLaws.{among-so, forced}
 use Rattle.s66_moments.proofs.FoundedLines.{line-follows}
 use Rattle.s66_moments.proofs.KnownLines.{IsSound, first-sound, line-founded, line-sound, pair-sound, reaches-some, span-leads}
@@ -26,9 +13,9 @@ use Rattle.s66_moments.proofs.MoreArcs.{same_moment-true}
 use Rattle.s66_moments.proofs.Spans.{plus-some}
 use Rattle.s66_moments.proofs.Steps.{leads-so, precedes-so}
 use Rattle.s66_moments.proofs.SupposedLines.{MaySuppose, supposed-parts}
-use Rattle.s66_cert.specs.Documents.{Document}
-use Rattle.s66_checker.specs.Verdict.{problem_of}
-use Rattle.s66_reasons.specs.Shown.{HasKnown, HasSupposed, HoldsIn, IsRefutedIn}
+use Rattle.s66_cert.specs.{Document}
+use Rattle.s66_checker.specs.{problem_of}
+use Rattle.s66_reasons.specs.{HasKnown, HasSupposed, HoldsIn, IsRefutedIn}
 
 some-found : {X : Type 0} (test : X → Bool) (xs : List X) → some_of test xs ≡ true → (x : X) × (test x ≡ true) × Among x xs
 some-found test [] h = absurd (true≢false (sym h))

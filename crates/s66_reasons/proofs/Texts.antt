@@ -1,24 +1,17 @@
 -- The sentences of a row, of a leaf and of a fact are those of their pieces, appended one after the other.
-use Rattle.std.proofs.Common.{ℕ, ◌+◌, ◌-◌, ◌≡◌, ◌<◌, ◌∙◌, Bool, true, false, true≢false, List, [], ◌∷◌, ◌++◌, codes, drop, get_or, slice_get, Some, length, map, refl, ap, append_assoc, sym}
-use Rattle.std.specs.Prelude.{Result, IfOk}
-use Rattle.std.specs.List.{filter}
+use Rattle.std.proofs.Common.{ℕ, ◌+◌, ◌-◌, ◌≡◌, ◌<◌, ◌∙◌, Bool, true, false, true≢false, List, [], ◌∷◌, ◌++◌, codes, drop, get_or, slice_get, Some, length, map, refl, ap, append_assoc, sym, Result}
+use Rattle.std.proofs.Common.{IfOk, filter}
 use Rattle.std.proofs.lemmas.List.{at_drop_more}
 use Rattle.std.proofs.lemmas.Option.{get_or_from_slice_get, slice_get_within}
 use Rattle.std.proofs.lemmas.Result.{IfOk-equal}
-use Rattle.s66_isa.specs.Lists.{rising}
-use Rattle.s66_model.specs.Timing.{row_at}
-use Rattle.s66_model.specs.Leaves.{link}
-use Rattle.s66_model.specs.Trees.{Vertex, AtTerminal, AtSplit}
-use Rattle.s66_model.specs.DominatedLeaves.{Ending}
-use Rattle.s66_cert.specs.Documents.{Document}
-use Rattle.s66_cert.proofs.Printed.{drop-here}
-use Rattle.s66_checker.specs.Verdict.{problem_of}
-use Rattle.s66_why.specs.Why.{on_right}
-use Rattle.s66_reasons.specs.Words.{Reason, row_text, rows_text}
-use Rattle.s66_reasons.specs.ChainWords.{link_row, walk_rows}
-use Rattle.s66_reasons.specs.Reasons.{if_words, line_text, lines_text}
-use Rattle.s66_reasons.specs.Within.{is_split, vertex_text}
+use Rattle.s66_isa.specs.{rising}
 use Rattle.s66_isa.proofs.Lists.{rising-next}
+use Rattle.s66_model.specs.{row_at, link, Vertex, AtTerminal, AtSplit, Ending}
+use Rattle.s66_cert.specs.{Document}
+use Rattle.s66_cert.proofs.Printed.{drop-here}
+use Rattle.s66_why.specs.{on_right}
+use Rattle.s66_checker.specs.{problem_of}
+use Rattle.s66_reasons.specs.{Reason, row_text, rows_text, link_row, walk_rows, if_words, line_text, lines_text, is_split, vertex_text}
 
 -- its number, its words, and the end of the line
 pub row-pushed : {T E : Type 0} (r : Result T E) (out first second new words : List ℕ) (number : ℕ) → first ≡ out ++ (on_right 4 number ++ codes "  ") →

@@ -1,12 +1,10 @@
 -- To be believed: the rows of a chain: what each of its instructions waits for of the one before it, and the end of the last.
 use Rattle.std.specs.Prelude.{ℕ, ◌+◌, if◌then◌else◌, ◌&&◌, ◌==◌, List, [], ◌∷◌, ◌++◌, codes, drop, get_or, Option, None, Some}
-use Rattle.s66_isa.specs.declared.reg.Reg.{Reg}
-use Rattle.s66_isa.specs.Table.{Row, Write, has_reg}
-use Rattle.s66_model.specs.Timing.{points_of, row_at}
-use Rattle.s66_model.specs.Leaves.{head, link, tail, uses}
-use Rattle.s66_why.specs.Why.{register_name}
-use Rattle.s66_cert.specs.Documents.{Document}
-use Rattle.s66_checker.specs.Verdict.{problem_of}
+use Rattle.s66_isa.specs.{Reg, Row, Write, has_reg}
+use Rattle.s66_model.specs.{points_of, row_at, head, link, tail, uses}
+use Rattle.s66_cert.specs.{Document}
+use Rattle.s66_why.specs.{register_name}
+use Rattle.s66_checker.specs.{problem_of}
 use Rattle.s66_reasons.specs.Words.{Reason, instruction}
 
 -- the first of these results for which n waits so long; none if it waits for a reference to memory

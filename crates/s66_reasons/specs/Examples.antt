@@ -1,11 +1,9 @@
 -- Used by examples alone: a document with fact lines and a longest path.
 use Rattle.std.specs.Prelude.{[], ◌∷◌, codes}
-use Rattle.s66_model.specs.Trees.{Alone}
-use Rattle.s66_model.specs.DominatedLeaves.{Factual}
-use Rattle.s66_model.specs.FactLeaves.{Next}
-use Rattle.s66_moments.specs.declared.fact_line.FactLine.TheVariants.{Pair}
-use Rattle.s66_cert.specs.Documents.{Document}
-use Rattle.s66_checker.specs.Examples.{with_facts}
+use Rattle.s66_model.specs.{Alone, Factual, Next}
+use Rattle.s66_moments.specs.{Pair}
+use Rattle.s66_cert.specs.{Document}
+use Rattle.s66_checker.specs.{with_facts}
 
 -- 1 stands before 3, which needs its unit, only by both lines
 abbrev pub shifts_in_turn : Document

@@ -1,22 +1,13 @@
 -- To be believed: fact lines in sentences, each number in them one that the line is checked by.
 use Rattle.std.specs.Prelude.{ℕ, ◌+◌, ◌-◌, ◌*◌, if◌then◌else◌, ◌==◌, max, Option, None, Some, List, [], ◌∷◌, ◌++◌, codes, decimal, get_or, length, map, option_map, unwrap_or}
-use Rattle.s66_isa.specs.declared.instr.Kind.{Kind}
-use Rattle.s66_isa.specs.Lists.{weigh}
-use Rattle.s66_isa.specs.Table.{numbers}
-use Rattle.s66_model.specs.Timing.{Problem, copies, row_at}
-use Rattle.s66_moments.specs.declared.moment.Stage.TheVariants.{Issue, Start, Done, Free}
-use Rattle.s66_moments.specs.declared.moment.Moment.{Moment}
-use Rattle.s66_moments.specs.declared.moment.Moment.TheVariants.{Origin, At, End}
-use Rattle.s66_moments.specs.declared.fact_line.FactLine.{FactLine}
+use Rattle.s66_isa.specs.{Kind, weigh, numbers}
+use Rattle.s66_model.specs.{Problem, copies, row_at}
+use Rattle.s66_moments.specs.{Issue, Start, Done, Free, Moment, Origin, At, End, FactLine, FactStep, Use, use_time, Network, Supposition, Standing, is_late_at, is_late_through, with_step, Known}
+use Rattle.s66_moments.specs.{arcs_of, is_late_by_parcels, kind_of_load, span, use_of}
 use Rattle.s66_moments.specs.declared.fact_line.FactLine.TheVariants as fact
-use Rattle.s66_moments.specs.declared.fact_line.FactStep.{FactStep}
 use Rattle.s66_moments.specs.declared.fact_line.FactStep.TheVariants as step
-use Rattle.s66_moments.specs.FactLines.{Use, use_time}
-use Rattle.s66_moments.specs.Networks.{Network}
-use Rattle.s66_moments.specs.Suppositions.{Supposition, Standing, is_late_at, is_late_through, with_step}
-use Rattle.s66_moments.specs.KnownFacts.{Known, arcs_of, is_late_by_parcels, kind_of_load, span, use_of}
-use Rattle.s66_cert.specs.Documents.{Document}
-use Rattle.s66_checker.specs.Verdict.{problem_of}
+use Rattle.s66_cert.specs.{Document}
+use Rattle.s66_checker.specs.{problem_of}
 use Rattle.s66_reasons.specs.declared.work.Work.{Work}
 use Rattle.s66_reasons.specs.Words.{each_words, instruction, listed, longest_use, unit_name}
 

@@ -1,21 +1,14 @@
 -- To be believed: a longest path from an instruction to the end by what is known after the fact lines of a document, arc by arc, and what is said of each arc.
 use Rattle.std.specs.Prelude.{ℕ, zero, suc, ◌+◌, ◌-◌, if◌then◌else◌, Bool, false, ◌&&◌, ◌||◌, ◌==◌, List, [], ◌∷◌, ◌++◌, codes, decimal, get_or, length, nat_le, Option, None, Some, unwrap_or}
 use Rattle.std.specs.Option.{option_or}
-use Rattle.s66_isa.specs.declared.instr.Kind.{Kind}
-use Rattle.s66_model.specs.Timing.{row_at}
-use Rattle.s66_moments.specs.declared.moment.Stage.{Stage}
-use Rattle.s66_moments.specs.declared.moment.Stage.TheVariants.{Issue, Start, Done, Free}
-use Rattle.s66_moments.specs.declared.moment.Moment.{Moment}
-use Rattle.s66_moments.specs.declared.moment.Moment.TheVariants.{Origin, At, End}
-use Rattle.s66_moments.specs.declared.fact_line.FactLine.TheVariants.{Pair, Load}
-use Rattle.s66_moments.specs.declared.fact_line.LoadLine.{LoadLine}
-use Rattle.s66_moments.specs.declared.fact_line.FactStep.{FactStep}
+use Rattle.s66_isa.specs.{Kind}
+use Rattle.s66_model.specs.{row_at}
+use Rattle.s66_moments.specs.{Stage, Issue, Start, Done, Free, Moment, Origin, At, End, Pair, Load, LoadLine, FactStep, Network, most_arcs, network, precedes, same_moment, targets, arcs_of, plus}
+use Rattle.s66_moments.specs.{reaches, span}
 use Rattle.s66_moments.specs.declared.fact_line.FactStep.TheVariants.{Fact, Suppose, Refuted}
-use Rattle.s66_moments.specs.Networks.{Network, most_arcs, network, precedes, same_moment, targets}
-use Rattle.s66_moments.specs.KnownFacts.{arcs_of, plus, reaches, span}
-use Rattle.s66_why.specs.Why.{register_name}
-use Rattle.s66_cert.specs.Documents.{Document}
-use Rattle.s66_checker.specs.Verdict.{facts_of, known_of, problem_of}
+use Rattle.s66_cert.specs.{Document}
+use Rattle.s66_why.specs.{register_name}
+use Rattle.s66_checker.specs.{facts_of, known_of, problem_of}
 use Rattle.s66_reasons.specs.declared.hop.Hop.{Hop}
 use Rattle.s66_reasons.specs.ChainWords.{end_words, link_words}
 use Rattle.s66_reasons.specs.Words.{Reason, counted, instruction, listed, unit_name}

@@ -1,20 +1,11 @@
 -- To be believed: why no order is faster, in sentences: what is said of a document whose verdict is yes, each number in it one that its lines are checked by.
-use Rattle.std.specs.Prelude.{ℕ, ◌+◌, ◌-◌, if◌then◌else◌, ◌&&◌, ◌==◌, Bool, true, false, List, [], ◌∷◌, ◌++◌, codes, decimal, flat_map, length, map, nat_le}
-use Rattle.std.specs.List.{filter}
-use Rattle.s66_isa.specs.declared.instr.Kind.{Kind}
-use Rattle.s66_isa.specs.Lists.{every, weigh}
-use Rattle.s66_isa.specs.Table.{numbers, same_kind}
-use Rattle.s66_model.specs.Timing.{Problem, copies, next, points_of, row_at, total_of}
-use Rattle.s66_model.specs.LegalOrder.{is_remaining, remaining, sum_remaining}
-use Rattle.s66_model.specs.Leaves.{Whole, Chain, Load, Parcels, if_last, load, rest_busy, tail, work_of}
-use Rattle.s66_model.specs.Trees.{Tree, Vertex, AtTerminal, AtSplit, flat, splits}
-use Rattle.s66_model.specs.DominatedLeaves.{Ending, Bounding, Dominated, Factual}
-use Rattle.s66_model.specs.FactLeaves.{Next, Turned, AtLine, LoadFrom}
-use Rattle.s66_cert.specs.Documents.{Document, has_factual, tree_placed}
-use Rattle.s66_moments.specs.declared.moment.Stage.TheVariants.{Issue}
-use Rattle.s66_moments.specs.declared.moment.Moment.TheVariants.{Origin, At, End}
-use Rattle.s66_moments.specs.Suppositions.{standing_first}
-use Rattle.s66_checker.specs.Verdict.{problem_of, facts_of}
+use Rattle.std.specs.Prelude.{ℕ, ◌+◌, ◌-◌, if◌then◌else◌, ◌&&◌, ◌==◌, Bool, true, false, List, [], ◌∷◌, ◌++◌, codes, decimal, flat_map, length, map, nat_le, filter}
+use Rattle.s66_isa.specs.{Kind, every, weigh, numbers, same_kind}
+use Rattle.s66_model.specs.{Problem, copies, next, points_of, row_at, total_of, is_remaining, remaining, sum_remaining, Whole, Chain, Load, Parcels, if_last, load, rest_busy, tail, work_of, Tree}
+use Rattle.s66_model.specs.{Vertex, AtTerminal, AtSplit, flat, splits, Ending, Bounding, Dominated, Factual, Next, Turned, AtLine, LoadFrom}
+use Rattle.s66_moments.specs.{Issue, Origin, At, End, standing_first}
+use Rattle.s66_cert.specs.{Document, has_factual, tree_placed}
+use Rattle.s66_checker.specs.{problem_of, facts_of}
 use Rattle.s66_reasons.specs.declared.tree.TheConstants.{SAID_SPLITS}
 use Rattle.s66_reasons.specs.Words.{Reason, counted, each_words, instruction, listed, longest_use, rows_text, unit_name}
 use Rattle.s66_reasons.specs.ChainWords.{chain_rows}

@@ -1,22 +1,10 @@
 -- To be believed: what the rows of a leaf show of the end of all orders that begin with its prefix.
 use Rattle.std.specs.Prelude.{ℕ, ◌+◌, ◌≡◌, ◌≤◌, ◌<◌, ◌⊎◌, true, List, [], ◌∷◌, ◌++◌, Option, None, Some}
-use Rattle.s66_isa.specs.Lists.{Among, least, weigh}
-use Rattle.s66_model.specs.Timing.{Problem, row_at, total_of}
-use Rattle.s66_model.specs.LegalOrder.{IsLegal}
-use Rattle.s66_model.specs.Leaves.{Leaf, Whole, Chain, Load, Parcels}
-use Rattle.s66_model.specs.Trees.{AtTerminal}
-use Rattle.s66_model.specs.DominatedLeaves.{Ending}
-use Rattle.s66_moments.specs.declared.moment.Stage.{Stage}
-use Rattle.s66_moments.specs.declared.moment.Stage.TheVariants.{Issue, Start}
-use Rattle.s66_moments.specs.declared.moment.Moment.{Moment}
-use Rattle.s66_moments.specs.declared.moment.Moment.TheVariants.{At, End}
-use Rattle.s66_moments.specs.Moments.{soonest, time_of}
-use Rattle.s66_moments.specs.Facts.{Arc, Before, IsNumber, IsSo}
-use Rattle.s66_moments.specs.KnownFacts.{Known, arcs_of, span}
-use Rattle.s66_moments.specs.Suppositions.{Supposition, Standing}
-use Rattle.s66_moments.specs.Networks.{Network}
-use Rattle.s66_cert.specs.Documents.{Document, tree_placed}
-use Rattle.s66_checker.specs.Verdict.{problem_of}
+use Rattle.s66_isa.specs.{Among, least, weigh}
+use Rattle.s66_model.specs.{Problem, row_at, total_of, IsLegal, Leaf, Whole, Chain, Load, Parcels, AtTerminal, Ending}
+use Rattle.s66_moments.specs.{Stage, Issue, Start, Moment, At, End, soonest, time_of, Arc, Before, IsNumber, IsSo, Known, arcs_of, span, Supposition, Standing, Network}
+use Rattle.s66_cert.specs.{Document, tree_placed}
+use Rattle.s66_checker.specs.{problem_of}
 use Rattle.s66_reasons.specs.declared.hop.Hop.{Hop}
 use Rattle.s66_reasons.specs.LongestPaths.{arcs, hops_of, to_end}
 use Rattle.s66_reasons.specs.FactWords.{work_of_load}

@@ -1,26 +1,13 @@
 -- Used by contracts within the crate alone: numbers of a block, what is granted of the leaves of a document, which lines of a tree are splits, the arcs of fact lines, moments of a block, and what is known of it.
 use Rattle.std.specs.Prelude.{ℕ, ◌≡◌, ◌≤◌, ◌<◌, if◌then◌else◌, ◌&&◌, [], ◌∷◌, Bool, true, false, List, Option, None, Some, length, get_or, max, unwrap_or}
-use Rattle.s66_isa.specs.declared.limits.TheConstants.{BLOCK_LIMIT}
-use Rattle.s66_isa.specs.Lists.{every}
-use Rattle.s66_model.specs.Timing.{Problem}
-use Rattle.s66_model.specs.LegalOrder.{IsBeginning, is_remaining}
-use Rattle.s66_model.specs.Leaves.{Whole, Chain, Load, Parcels}
-use Rattle.s66_model.specs.Trees.{TreeHolds, Vertex, AtTerminal, AtSplit}
-use Rattle.s66_model.specs.DominatedLeaves.{Ending, Bounding, Dominated, Factual}
-use Rattle.s66_model.specs.FactLeaves.{Next, Turned, AtLine, LoadFrom}
-use Rattle.s66_moments.specs.declared.fact_line.LoadLine.{LoadLine}
-use Rattle.s66_moments.specs.declared.moment.Moment.{Moment}
-use Rattle.s66_moments.specs.declared.moment.Moment.TheVariants.{Origin, At, End}
-use Rattle.s66_moments.specs.Facts.{IsNumber}
-use Rattle.s66_moments.specs.KnownFacts.{known_first}
-use Rattle.s66_moments.specs.Networks.{same_moment}
-use Rattle.s66_moments.specs.Suppositions.{standing_first}
-use Rattle.s66_facts.specs.BlockGround.{Ground, known_of as known_in}
-use Rattle.s66_facts.specs.Supposing.{Grounds, standing_in}
-use Rattle.s66_cert.specs.Documents.{Document, IsDocument}
+use Rattle.s66_isa.specs.{BLOCK_LIMIT, every}
+use Rattle.s66_model.specs.{Problem, IsBeginning, is_remaining, Whole, Chain, Load, Parcels, TreeHolds, Vertex, AtTerminal, AtSplit, Ending, Bounding, Dominated, Factual, Next, Turned, AtLine}
+use Rattle.s66_model.specs.{LoadFrom}
+use Rattle.s66_moments.specs.{LoadLine, Moment, Origin, At, End, IsNumber, known_first, same_moment, standing_first}
+use Rattle.s66_facts.specs.{Ground, known_of as known_in, Grounds, standing_in}
+use Rattle.s66_cert.specs.{Document, IsDocument}
 use Rattle.s66_checker.specs.Checked.{Checked}
-use Rattle.s66_checker.specs.KeptKnown.{AreTaken, KnowsAll}
-use Rattle.s66_checker.specs.Verdict.{line_fault, problem_of}
+use Rattle.s66_checker.specs.{AreTaken, KnowsAll, line_fault, problem_of}
 use Rattle.s66_reasons.specs.Reasons.{leaf_text}
 
 -- each of a block of so many

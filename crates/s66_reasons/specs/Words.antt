@@ -2,12 +2,10 @@
 -- the examples open it, to compute numbers
 unfoldable pub use Rattle.std.specs.Fmt.{digits}
 use Rattle.std.specs.Prelude.{ℕ, zero, suc, ◌+◌, ◌-◌, ◌*◌, if◌then◌else◌, ◌==◌, List, [], ◌∷◌, ◌++◌, codes, decimal, flat_map, get_or, length}
-use Rattle.s66_isa.specs.declared.instr.Kind.{Kind}
-use Rattle.s66_isa.specs.declared.instr.Kind.TheVariants.{Boolean, Shift, Add, LongAdd, Multiply, Divide, Increment}
-use Rattle.s66_isa.specs.Lists.{greatest}
-use Rattle.s66_model.specs.Timing.{Problem, row_at}
-use Rattle.s66_why.specs.Why.{on_right}
-use Rattle.s66_cert.specs.Documents.{Document}
+use Rattle.s66_isa.specs.{Kind, Boolean, Shift, Add, LongAdd, Multiply, Divide, Increment, greatest}
+use Rattle.s66_model.specs.{Problem, row_at}
+use Rattle.s66_cert.specs.{Document}
+use Rattle.s66_why.specs.{on_right}
 
 -- WORDS
 

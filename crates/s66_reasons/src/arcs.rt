@@ -1,13 +1,9 @@
 //! How much later a moment comes at least than another by one arc, by the instruction table or by a load line.
 
 ghost use Rattle.std.specs.Prelude.{◌≡◌, if◌then◌else◌, ◌||◌, ◌==◌, [], IsTrue, None};
-ghost use Rattle.s66_moments.specs.declared.moment.Moment.TheVariants.{At};
-ghost use Rattle.s66_moments.specs.Facts.{IsNumber};
-ghost use Rattle.s66_moments.specs.Moments.{arc, has_stage, is_moment, later_arc, own_arc};
-ghost use Rattle.s66_moments.specs.Networks.{network};
-ghost use Rattle.s66_facts.specs.Marked.{before_in};
-ghost use Rattle.s66_reasons.specs.LongestPaths.{each_left, load_left};
-ghost use Rattle.s66_reasons.specs.Within.{IsNumberOf, with_loads};
+ghost use Rattle.s66_moments.specs.{At, IsNumber, arc, has_stage, is_moment, later_arc, own_arc, network};
+ghost use Rattle.s66_facts.specs.{before_in};
+ghost use Rattle.s66_reasons.specs.{each_left, load_left, IsNumberOf, with_loads};
 
 use crate::left::{to_show_after, with_left};
 use s66_checker::Prefix;

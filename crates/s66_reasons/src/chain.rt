@@ -1,14 +1,11 @@
 //! The rows of a chain: what each of its instructions waits for of the one before it, and the end of the last.
 
 ghost use Rattle.std.specs.Prelude.{◌≡◌, ◌+◌, ◌≤◌, ◌<◌, ◌^◌, ◌++◌, IfOk, OnOk, None, Some, length};
-ghost use Rattle.s66_isa.specs.declared.limits.TheConstants.{BLOCK_LIMIT};
-ghost use Rattle.s66_model.specs.Timing.{points_of, row_at};
-ghost use Rattle.s66_model.specs.Leaves.{head, link};
-ghost use Rattle.s66_cert.specs.DocumentParts.{document_of};
-ghost use Rattle.s66_checker.specs.Verdict.{problem_of};
-ghost use Rattle.s66_reasons.specs.ChainWords.{awaited, chain_rows, end_row, end_words, last_result, lasting, link_row, link_words, start_rows, walk_rows};
-ghost use Rattle.s66_reasons.specs.Words.{row_text, rows_text};
-ghost use Rattle.s66_reasons.specs.Within.{AreWithin};
+ghost use Rattle.s66_isa.specs.{BLOCK_LIMIT};
+ghost use Rattle.s66_model.specs.{points_of, row_at, head, link};
+ghost use Rattle.s66_cert.specs.{document_of};
+ghost use Rattle.s66_checker.specs.{problem_of};
+ghost use Rattle.s66_reasons.specs.{awaited, chain_rows, end_row, end_words, last_result, lasting, link_row, link_words, start_rows, walk_rows, row_text, rows_text, AreWithin};
 
 use crate::words::{push_around, push_instruction, push_number};
 use s66_cert::Document;

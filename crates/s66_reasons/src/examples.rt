@@ -1,17 +1,12 @@
 //! Worked examples: what is said of small documents. Each clause is a text, and the function does nothing.
 
 ghost use Rattle.std.specs.Prelude.{[], ◌∷◌, ◌≡◌, ◌++◌, codes};
-ghost use Rattle.s66_isa.specs.declared.instr.Kind.TheVariants.{Divide, Multiply};
-ghost use Rattle.s66_model.specs.Leaves.{Load};
-ghost use Rattle.s66_model.specs.Trees.{Alone, Parted, NoMore, Unsplit};
-ghost use Rattle.s66_model.specs.DominatedLeaves.{Bounding};
-ghost use Rattle.s66_cert.specs.Examples.{one_load, three_multiplies};
-ghost use Rattle.s66_moments.specs.Examples.{second_by_lines};
-ghost use Rattle.s66_checker.specs.Examples.{before_their_writers, multiplies_at_once, three_adds};
-ghost use Rattle.s66_reasons.specs.Examples.{shifts_in_turn};
-ghost use Rattle.s66_reasons.specs.FactWords.{by_parcels, by_unit};
-ghost use Rattle.s66_reasons.specs.LongestPaths.{by_words, pairs_of};
-ghost use Rattle.s66_reasons.specs.Reasons.{facts_text, reasons_text};
+ghost use Rattle.s66_isa.specs.{Divide, Multiply};
+ghost use Rattle.s66_model.specs.{Load, Alone, Parted, NoMore, Unsplit, Bounding};
+ghost use Rattle.s66_moments.specs.{second_by_lines};
+ghost use Rattle.s66_cert.specs.{one_load, three_multiplies};
+ghost use Rattle.s66_checker.specs.{before_their_writers, multiplies_at_once, three_adds};
+ghost use Rattle.s66_reasons.specs.{shifts_in_turn, by_parcels, by_unit, by_words, pairs_of, facts_text, reasons_text};
 
 /// Which fact lines together put a number before another, and how they are named.
 #[tactic(auto, unfolding(s66_isa::specs::Table::row, s66_isa::specs::Profiles::profile_of, s66_model::specs::Dependence::conflict, crate::specs::Words::digits))]

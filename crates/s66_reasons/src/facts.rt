@@ -1,19 +1,15 @@
 //! A fact line in a sentence, by what is known before it.
 
 ghost use Rattle.std.specs.Prelude.{◌≡◌, ◌≤◌, ◌<◌, ◌+◌, ◌^◌, ◌++◌, [], true, OnOk, Some, decimal, length};
-ghost use Rattle.s66_isa.specs.declared.limits.TheConstants.{BLOCK_LIMIT};
-ghost use Rattle.s66_model.specs.Timing.{row_at};
-ghost use Rattle.s66_moments.specs.declared.fact_line.FactLine.TheVariants.{Load};
-ghost use Rattle.s66_moments.specs.declared.moment.Stage.TheVariants.{Issue};
-ghost use Rattle.s66_moments.specs.declared.moment.Moment.TheVariants.{At};
-ghost use Rattle.s66_moments.specs.Facts.{IsNumber};
-ghost use Rattle.s66_moments.specs.KnownFacts.{arcs_of, is_taken, plus, reaches};
-ghost use Rattle.s66_facts.specs.BlockGround.{known_of as known_in};
-ghost use Rattle.s66_cert.specs.DocumentParts.{document_of};
-ghost use Rattle.s66_checker.specs.Verdict.{problem_of};
-ghost use Rattle.s66_reasons.specs.Within.{AreLoaded};
-ghost use Rattle.s66_reasons.specs.Words.{listed};
-ghost use Rattle.s66_reasons.specs.FactWords.{begins, by_parcels, by_unit, could_words, fact_sentence, from_words, has_words, in_all, issues_words, last_words, late_words, left_to, load_end, load_sentence, many_words, mixed_words, need_words, one_words, pair_sentence, pair_words, rest_words, side_by_side, so_words, soonest_known, to_words, units_words, until_words, which_words};
+ghost use Rattle.s66_isa.specs.{BLOCK_LIMIT};
+ghost use Rattle.s66_model.specs.{row_at};
+ghost use Rattle.s66_moments.specs.{Load, Issue, At, IsNumber, arcs_of, is_taken, plus, reaches};
+ghost use Rattle.s66_facts.specs.{known_of as known_in};
+ghost use Rattle.s66_cert.specs.{document_of};
+ghost use Rattle.s66_checker.specs.{problem_of};
+ghost use Rattle.s66_reasons.specs.{AreLoaded, listed, begins, by_parcels, by_unit, could_words, fact_sentence, from_words, has_words, in_all, issues_words, last_words, late_words, left_to, load_end};
+ghost use Rattle.s66_reasons.specs.{load_sentence, many_words, mixed_words, need_words, one_words, pair_sentence, pair_words, rest_words, side_by_side, so_words, soonest_known, to_words, units_words};
+ghost use Rattle.s66_reasons.specs.{until_words, which_words};
 
 use crate::units::{kind_of, push_each};
 use crate::words::{push_around, push_instruction, separator, unit_name};

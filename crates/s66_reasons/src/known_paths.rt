@@ -1,7 +1,7 @@
 //! The arcs and the longest paths to the end by what is known after fact lines, and which line gives an arc.
 
 ghost use Rattle.std.specs.Prelude.{◌≡◌};
-ghost use Rattle.s66_moments.specs.KnownFacts.{plus, reaches};
+ghost use Rattle.s66_moments.specs.{plus, reaches};
 
 use crate::arcs::{arc_by_lines, table_arc};
 use crate::hop::Hop;
@@ -23,7 +23,7 @@ pub(crate) struct KnownPaths<'a> {
 }
 
 impl<'a> Model for KnownPaths<'a> {
-    ghost use Rattle.s66_cert.specs.DocumentParts.{Parts, document_of};
+    ghost use Rattle.s66_cert.specs.{Parts, document_of};
     ghost use Rattle.s66_reasons.specs.Within.{AreKnown};
 
     ghost Value = { Parts };
@@ -45,17 +45,12 @@ fn takes(left: u64, arc: Option<u32>, path: Option<u64>) -> bool
 
 impl<'a> KnownPaths<'a> {
     ghost use Rattle.std.specs.Prelude.{◌≡◌, IsTrue, map};
-    ghost use Rattle.s66_isa.specs.Table.{Write as WriteOf, numbers};
-    ghost use Rattle.s66_model.specs.Timing.{row_at};
-    ghost use Rattle.s66_moments.specs.declared.moment.Moment.TheVariants.{At};
-    ghost use Rattle.s66_moments.specs.declared.moment.Stage.TheVariants.{Done};
-    ghost use Rattle.s66_moments.specs.Facts.{IsNumber};
-    ghost use Rattle.s66_moments.specs.KnownFacts.{reaches};
-    ghost use Rattle.s66_moments.specs.Networks.{moments_among, moments_of, network};
-    ghost use Rattle.s66_cert.specs.DocumentParts.{document_of};
-    ghost use Rattle.s66_checker.specs.Verdict.{known_of, problem_of};
-    ghost use Rattle.s66_reasons.specs.LongestPaths.{arcs, first_hop, hop_to, line_of_load, next_hop, to_end};
-    ghost use Rattle.s66_reasons.specs.Within.{AreKnown, IsNumberOf};
+    ghost use Rattle.s66_isa.specs.{Write as WriteOf, numbers};
+    ghost use Rattle.s66_model.specs.{row_at};
+    ghost use Rattle.s66_moments.specs.{At, Done, IsNumber, reaches, moments_among, moments_of, network};
+    ghost use Rattle.s66_cert.specs.{document_of};
+    ghost use Rattle.s66_checker.specs.{known_of, problem_of};
+    ghost use Rattle.s66_reasons.specs.{arcs, first_hop, hop_to, line_of_load, next_hop, to_end, AreKnown, IsNumberOf};
 
     /// Of a document's block, by its empty prefix.
     pub(crate) fn new(

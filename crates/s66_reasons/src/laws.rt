@@ -1,21 +1,12 @@
 //! What reasons say, the contract of a function that does nothing.
 
 ghost use Rattle.std.specs.Prelude.{ℕ, List, ◌≡◌, true};
-ghost use Rattle.s66_model.specs.Leaves.{Leaf};
-ghost use Rattle.s66_model.specs.Trees.{Alone};
-ghost use Rattle.s66_model.specs.DominatedLeaves.{Bounding, Factual};
-ghost use Rattle.s66_model.specs.FactLeaves.{Next, Turned, LoadFrom};
-ghost use Rattle.s66_moments.specs.Facts.{IsNumber};
-ghost use Rattle.s66_moments.specs.KnownFacts.{is_turned};
-ghost use Rattle.s66_moments.specs.declared.fact_line.FactStep.{FactStep};
+ghost use Rattle.s66_model.specs.{Leaf, Alone, Bounding, Factual, Next, Turned, LoadFrom};
+ghost use Rattle.s66_moments.specs.{IsNumber, is_turned, FactStep, are_steps_taken, is_step_taken, standing_after, standing_first};
 ghost use Rattle.s66_moments.specs.declared.fact_line.FactStep.TheVariants.{Refuted};
-ghost use Rattle.s66_moments.specs.Suppositions.{are_steps_taken, is_step_taken, standing_after, standing_first};
-ghost use Rattle.s66_cert.specs.Documents.{Document, IsDocument};
-ghost use Rattle.s66_checker.specs.declared.verdict.Verdict.TheVariants.{Yes};
-ghost use Rattle.s66_checker.specs.KeptKnown.{AreTaken};
-ghost use Rattle.s66_checker.specs.Verdict.{known_of, problem_of, verdict};
-ghost use Rattle.s66_reasons.specs.Reasons.{leaf_rows};
-ghost use Rattle.s66_reasons.specs.Shown.{end_by, HasNoneSooner, HoldsIn, IsLeafAt, IsLoadShown, IsPathShown, IsReached, IsRefutedIn};
+ghost use Rattle.s66_cert.specs.{Document, IsDocument};
+ghost use Rattle.s66_checker.specs.{Yes, AreTaken, known_of, problem_of, verdict};
+ghost use Rattle.s66_reasons.specs.{leaf_rows, end_by, HasNoneSooner, HoldsIn, IsLeafAt, IsLoadShown, IsPathShown, IsReached, IsRefutedIn};
 
 /// If the verdict on a document is yes, the rows of each leaf of its tree reach the bound. If it is a chain, all units of a kind, all
 /// parcels or a whole order, no legal order that begins with the leaf's prefix takes less than they say. By facts they say what holds in

@@ -2,16 +2,11 @@
 //! That depends on its kind: a whole order, a chain, a load, parcels, or by facts.
 
 ghost use Rattle.std.specs.Prelude.{◌≡◌, ◌++◌, false, IfNone, IfSome, OnOk};
-ghost use Rattle.s66_moments.specs.Facts.{IsNumber};
-ghost use Rattle.s66_model.specs.Trees.{AtTerminal};
-ghost use Rattle.s66_model.specs.DominatedLeaves.{Factual};
-ghost use Rattle.s66_model.specs.Lines.{fact_leaf_of, vertex_of};
-ghost use Rattle.s66_cert.specs.Documents.{is_factual};
-ghost use Rattle.s66_cert.specs.DocumentParts.{document_of};
-ghost use Rattle.s66_checker.specs.Verdict.{problem_of};
-ghost use Rattle.s66_reasons.specs.Reasons.{issue_row, leaf_text, left_row, next_rows, turned_text, whole_row};
-ghost use Rattle.s66_reasons.specs.Words.{row_text, rows_text};
-ghost use Rattle.s66_reasons.specs.Within.{AreLoaded, IsGranted, vertex_text};
+ghost use Rattle.s66_model.specs.{AtTerminal, Factual, fact_leaf_of, vertex_of};
+ghost use Rattle.s66_moments.specs.{IsNumber};
+ghost use Rattle.s66_cert.specs.{is_factual, document_of};
+ghost use Rattle.s66_checker.specs.{problem_of};
+ghost use Rattle.s66_reasons.specs.{issue_row, leaf_text, left_row, next_rows, turned_text, whole_row, row_text, rows_text, AreLoaded, IsGranted, vertex_text};
 
 use crate::chain::push_chain;
 use crate::facts::{load_end, push_load_sentence};

@@ -2,8 +2,7 @@
 
 ghost use Rattle.std.specs.Prelude.{◌≡◌, None, Some};
 ghost use Rattle.s66_moments.specs.declared.fact_line.FactStep.TheVariants.{Fact};
-ghost use Rattle.s66_reasons.specs.LongestPaths.{keeps_apart, load_left, pair_left, passes, to_show_after};
-ghost use Rattle.s66_reasons.specs.Within.{with_load};
+ghost use Rattle.s66_reasons.specs.{keeps_apart, load_left, pair_left, passes, to_show_after, with_load};
 
 use s66_facts::is_same_moment;
 use s66_moments::{FactLine, FactStep, LoadLine, Moment};

@@ -1,8 +1,8 @@
 //! Which pairs of fact lines put a number before another.
 
 ghost use Rattle.std.specs.Prelude.{◌≡◌};
-ghost use Rattle.s66_facts.specs.Marked.{before_in};
-ghost use Rattle.s66_reasons.specs.LongestPaths.{up_to};
+ghost use Rattle.s66_facts.specs.{before_in};
+ghost use Rattle.s66_reasons.specs.{up_to};
 
 use crate::known_paths::KnownPaths;
 use crate::left::{pair_left, to_show_after};
@@ -31,11 +31,11 @@ fn is_up_to(facts: &Facts, m: u8, n: u8) -> bool
 
 impl<'a> KnownPaths<'a> {
     ghost use Rattle.std.specs.Prelude.{◌≡◌};
-    ghost use Rattle.s66_moments.specs.Networks.{precedes};
-    ghost use Rattle.s66_facts.specs.Marked.{before_in};
-    ghost use Rattle.s66_cert.specs.DocumentParts.{document_of};
-    ghost use Rattle.s66_checker.specs.Verdict.{known_of, problem_of};
-    ghost use Rattle.s66_reasons.specs.LongestPaths.{pair_by, pair_from, pairs_of, passes, puts_before, second_of, up_to};
+    ghost use Rattle.s66_moments.specs.{precedes};
+    ghost use Rattle.s66_facts.specs.{before_in};
+    ghost use Rattle.s66_cert.specs.{document_of};
+    ghost use Rattle.s66_checker.specs.{known_of, problem_of};
+    ghost use Rattle.s66_reasons.specs.{pair_by, pair_from, pairs_of, passes, puts_before, second_of, up_to};
 
     /// Whether m is n, or n depends on it.
     fn depends(&self, m: u8, n: u8) -> bool

@@ -1,14 +1,11 @@
 //! The paragraphs of a tree: each leaf with its prefix, in the order of the tree's lines.
 
 ghost use Rattle.std.specs.Prelude.{◌≡◌, ◌++◌, [], true, false, IfNone, IfSome, OnOk};
-ghost use Rattle.s66_isa.specs.Lists.{Among};
-ghost use Rattle.s66_model.specs.Lines.{vertex_of};
-ghost use Rattle.s66_cert.specs.Documents.{has_factual, is_factual, tree_placed};
-ghost use Rattle.s66_cert.specs.DocumentParts.{document_of};
-ghost use Rattle.s66_checker.specs.Verdict.{problem_of};
-ghost use Rattle.s66_checker.specs.Dominating.{is_beginning};
-ghost use Rattle.s66_reasons.specs.Reasons.{if_words, line_text, lines_text, then_words};
-ghost use Rattle.s66_reasons.specs.Within.{IsGranted, IsRight, vertex_text};
+ghost use Rattle.s66_isa.specs.{Among};
+ghost use Rattle.s66_model.specs.{vertex_of};
+ghost use Rattle.s66_cert.specs.{has_factual, is_factual, tree_placed, document_of};
+ghost use Rattle.s66_checker.specs.{problem_of, is_beginning};
+ghost use Rattle.s66_reasons.specs.{if_words, line_text, lines_text, then_words, IsGranted, IsRight, vertex_text};
 
 use crate::known_paths::KnownPaths;
 use crate::leaf::push_leaf;

@@ -1,12 +1,10 @@
 //! The rows of the parcels: whichever instruction issues last, it issues after the parcels of all others.
 
 ghost use Rattle.std.specs.Prelude.{◌≡◌, ◌≤◌, ◌++◌, OnOk, length, map};
-ghost use Rattle.s66_model.specs.Timing.{row_at};
-ghost use Rattle.s66_model.specs.LegalOrder.{remaining, sum_remaining};
-ghost use Rattle.s66_cert.specs.DocumentParts.{document_of};
-ghost use Rattle.s66_checker.specs.Verdict.{problem_of};
-ghost use Rattle.s66_reasons.specs.Words.{row_text, rows_text};
-ghost use Rattle.s66_reasons.specs.Reasons.{if_last_words, last_row, slot_after};
+ghost use Rattle.s66_model.specs.{row_at, remaining, sum_remaining};
+ghost use Rattle.s66_cert.specs.{document_of};
+ghost use Rattle.s66_checker.specs.{problem_of};
+ghost use Rattle.s66_reasons.specs.{row_text, rows_text, if_last_words, last_row, slot_after};
 
 use crate::words::{push_around, push_number};
 use s66_cert::Document;

@@ -1,10 +1,9 @@
 //! The rows of a longest path to the end by what is known after fact lines, arc by arc.
 
 ghost use Rattle.std.specs.Prelude.{◌≡◌, ◌++◌, OnOk};
-ghost use Rattle.s66_moments.specs.declared.moment.Stage.TheVariants.{Done};
-ghost use Rattle.s66_cert.specs.DocumentParts.{document_of};
-ghost use Rattle.s66_reasons.specs.LongestPaths.{at_end_words, by_words, free_unit_words, line_name, parcels_words, reached_words, third_words};
-ghost use Rattle.s66_reasons.specs.Words.{listed};
+ghost use Rattle.s66_moments.specs.{Done};
+ghost use Rattle.s66_cert.specs.{document_of};
+ghost use Rattle.s66_reasons.specs.{at_end_words, by_words, free_unit_words, line_name, parcels_words, reached_words, third_words, listed};
 
 use crate::chain::{push_end_words, push_link_words};
 use crate::hop::Hop;
@@ -124,14 +123,10 @@ fn push_reached(out: &mut Vec<u8>, moment: &Moment) -> Result<(), AllocError>
 
 impl<'a> KnownPaths<'a> {
     ghost use Rattle.std.specs.Prelude.{◌≡◌, ◌≤◌, ◌^◌, ◌++◌, OnOk};
-    ghost use Rattle.s66_moments.specs.declared.moment.Moment.TheVariants.{At};
-    ghost use Rattle.s66_moments.specs.declared.moment.Stage.TheVariants.{Issue};
-    ghost use Rattle.s66_moments.specs.Facts.{IsNumber};
-    ghost use Rattle.s66_cert.specs.DocumentParts.{document_of};
-    ghost use Rattle.s66_checker.specs.Verdict.{problem_of};
-    ghost use Rattle.s66_reasons.specs.LongestPaths.{at_end_words, by_words, hop_rows, hops_from, hops_of, later_words, load_row, pairs_of, path_rows, table_rows};
-    ghost use Rattle.s66_reasons.specs.Within.{IsNumberOf};
-    ghost use Rattle.s66_reasons.specs.Words.{row_text, rows_text};
+    ghost use Rattle.s66_moments.specs.{At, Issue, IsNumber};
+    ghost use Rattle.s66_cert.specs.{document_of};
+    ghost use Rattle.s66_checker.specs.{problem_of};
+    ghost use Rattle.s66_reasons.specs.{at_end_words, by_words, hop_rows, hops_from, hops_of, later_words, load_row, pairs_of, path_rows, table_rows, IsNumberOf, row_text, rows_text};
 
     /// What n waits for of m, a stage of which comes before a stage of n.
     fn push_later_words(

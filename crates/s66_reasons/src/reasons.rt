@@ -2,16 +2,12 @@
 //! order is best.
 
 ghost use Rattle.std.specs.Prelude.{◌≡◌, ◌≤◌, ◌++◌, [], OnOk, length};
-ghost use Rattle.s66_isa.specs.declared.limits.TheConstants.{BLOCK_LIMIT};
-ghost use Rattle.s66_model.specs.Trees.{splits};
-ghost use Rattle.s66_moments.specs.Suppositions.{standing_first};
-ghost use Rattle.s66_cert.specs.Documents.{tree_placed};
-ghost use Rattle.s66_cert.specs.DocumentParts.{document_of};
-ghost use Rattle.s66_checker.specs.declared.verdict.Verdict.TheVariants.{Yes};
-ghost use Rattle.s66_checker.specs.Verdict.{facts_of, problem_of, verdict};
-ghost use Rattle.s66_reasons.specs.Reasons.{and_facts, colon, counts_text, faster_words, last_line, leaves_text, lines_text, opening, reasons_text, splits_words, tree_text};
-ghost use Rattle.s66_reasons.specs.FactWords.{facts_from};
-ghost use Rattle.s66_reasons.specs.Within.{AreBegun, IsRight};
+ghost use Rattle.s66_isa.specs.{BLOCK_LIMIT};
+ghost use Rattle.s66_model.specs.{splits};
+ghost use Rattle.s66_moments.specs.{standing_first};
+ghost use Rattle.s66_cert.specs.{tree_placed, document_of};
+ghost use Rattle.s66_checker.specs.{Yes, facts_of, problem_of, verdict};
+ghost use Rattle.s66_reasons.specs.{and_facts, colon, counts_text, faster_words, last_line, leaves_text, lines_text, opening, reasons_text, splits_words, tree_text, facts_from, AreBegun, IsRight};
 
 use crate::known_paths::KnownPaths;
 use crate::paragraphs::push_paragraphs;

@@ -1,17 +1,12 @@
 //! The fact lines of a document in sentences, numbered, with the suppositions among them.
 
 ghost use Rattle.std.specs.Prelude.{◌≡◌, ◌++◌, [], ◌∷◌, true, IfOk, IfSome, OnOk};
-ghost use Rattle.s66_isa.specs.Table.{numbers};
-ghost use Rattle.s66_moments.specs.Facts.{IsNumber};
-ghost use Rattle.s66_moments.specs.KnownFacts.{arcs_of};
-ghost use Rattle.s66_moments.specs.Suppositions.{is_step_taken, standing_first};
-ghost use Rattle.s66_facts.specs.BlockGround.{known_of as known_in};
-ghost use Rattle.s66_facts.specs.Supposing.{standing_in};
-ghost use Rattle.s66_cert.specs.DocumentParts.{document_of};
-ghost use Rattle.s66_checker.specs.KeptKnown.{KnowsAll};
-ghost use Rattle.s66_checker.specs.Verdict.{facts_of, problem_of};
-ghost use Rattle.s66_reasons.specs.FactWords.{comes_words, facts_from, late_number, margin, numbered_step, refuted_sentence, refuted_words, suppose_sentence, through_words, to_show, too_late_words};
-ghost use Rattle.s66_reasons.specs.Within.{AreBegun};
+ghost use Rattle.s66_isa.specs.{numbers};
+ghost use Rattle.s66_moments.specs.{IsNumber, arcs_of, is_step_taken, standing_first};
+ghost use Rattle.s66_facts.specs.{known_of as known_in, standing_in};
+ghost use Rattle.s66_cert.specs.{document_of};
+ghost use Rattle.s66_checker.specs.{KnowsAll, facts_of, problem_of};
+ghost use Rattle.s66_reasons.specs.{comes_words, facts_from, late_number, margin, numbered_step, refuted_sentence, refuted_words, suppose_sentence, through_words, to_show, too_late_words, AreBegun};
 
 use crate::facts::{push_fact, push_pair_words, push_rest};
 use crate::left::to_show_after;

@@ -1,14 +1,10 @@
 //! Which trees are said leaf by leaf: those of few splits whose leaves can all be said.
 
 ghost use Rattle.std.specs.Prelude.{◌≡◌, ◌≤◌};
-ghost use Rattle.s66_isa.specs.Lists.{every, some_of, tally};
-ghost use Rattle.s66_model.specs.Trees.{splits};
-ghost use Rattle.s66_model.specs.Lines.{vertex_of};
-ghost use Rattle.s66_cert.specs.declared.limits.TheConstants.{SPLIT_LIMIT};
-ghost use Rattle.s66_cert.specs.Documents.{has_factual, is_factual};
-ghost use Rattle.s66_cert.specs.DocumentParts.{document_of};
-ghost use Rattle.s66_reasons.specs.Reasons.{is_line_said, is_said};
-ghost use Rattle.s66_reasons.specs.Within.{is_split};
+ghost use Rattle.s66_isa.specs.{every, some_of, tally};
+ghost use Rattle.s66_model.specs.{splits, vertex_of};
+ghost use Rattle.s66_cert.specs.{SPLIT_LIMIT, has_factual, is_factual, document_of};
+ghost use Rattle.s66_reasons.specs.{is_line_said, is_said, is_split};
 
 use s66_cert::{Document, FactLeaf, TreeLine, TreeLines};
 

@@ -1,15 +1,13 @@
 //! The row of a kind of unit: which instructions need it, and for how long.
 
 ghost use Rattle.std.specs.Prelude.{◌≡◌, ◌≤◌, ◌++◌, ◌&&◌, OnOk, length};
-ghost use Rattle.s66_isa.specs.declared.limits.TheConstants.{BLOCK_LIMIT};
-ghost use Rattle.s66_isa.specs.Table.{same_kind};
-ghost use Rattle.s66_model.specs.Timing.{row_at};
-ghost use Rattle.s66_model.specs.LegalOrder.{is_remaining};
-ghost use Rattle.s66_cert.specs.DocumentParts.{document_of};
-ghost use Rattle.s66_checker.specs.Verdict.{problem_of};
-ghost use Rattle.s66_reasons.specs.Reasons.{after_words, before_words, how_long_words, load_row, load_words, no_need_words, numbers_of, sharing_words, slot_after, slot_words, unit_words, who_needs_words, work_before};
-ghost use Rattle.s66_reasons.specs.Words.{each_words, longest_use, row_text};
-ghost use Rattle.s66_reasons.specs.Within.{AreWithin};
+ghost use Rattle.s66_isa.specs.{BLOCK_LIMIT, same_kind};
+ghost use Rattle.s66_model.specs.{row_at, is_remaining};
+ghost use Rattle.s66_cert.specs.{document_of};
+ghost use Rattle.s66_checker.specs.{problem_of};
+ghost use Rattle.s66_reasons.specs.{after_words, before_words, how_long_words, load_words, no_need_words, numbers_of, sharing_words, slot_after, slot_words, unit_words, who_needs_words, work_before};
+ghost use Rattle.s66_reasons.specs.{each_words, longest_use, row_text, AreWithin};
+ghost use Rattle.s66_reasons.specs.Reasons.{load_row};
 
 use crate::words::{push_instructions, push_number, unit_name};
 use arrayvec::ArrayVec;

@@ -1,9 +1,9 @@
 //! Words, numbers and lists of instructions, of which the sentences are made.
 
 ghost use Rattle.std.specs.Prelude.{◌≡◌, ◌++◌, OnOk, codes};
-ghost use Rattle.s66_cert.specs.DocumentParts.{document_of};
-ghost use Rattle.s66_reasons.specs.Words.{counted, instruction, listed, separator, unit_name};
-ghost use Rattle.s66_why.specs.Why.{on_right};
+ghost use Rattle.s66_cert.specs.{document_of};
+ghost use Rattle.s66_why.specs.{on_right};
+ghost use Rattle.s66_reasons.specs.{counted, instruction, listed, separator, unit_name};
 
 use s66_cert::Document;
 use s66_device::push_field;

@@ -20,8 +20,7 @@ pub struct Work {
 
 impl Work {
     ghost use Rattle.std.specs.Prelude.{◌≡◌};
-    ghost use Rattle.s66_reasons.specs.FactWords.{work_of_load};
-    ghost use Rattle.s66_reasons.specs.Within.{AreLoaded};
+    ghost use Rattle.s66_reasons.specs.{work_of_load, AreLoaded};
 
     /// Of these, whose kind is that of the first.
     pub(crate) fn of(prefix: &Prefix, numbers: &[u8]) -> Work

@@ -1,8 +1,7 @@
 use Rattle.std.proofs.Common.{◌≡◌, None, drop}
-use Rattle.s66_moments.specs.Networks.{network}
-use Rattle.s66_facts.specs.Marked.{before_in}
-use Rattle.s66_reasons.specs.LongestPaths.{each_left, load_left}
-use Rattle.s66_reasons.specs.Within.{with_loads}
+use Rattle.s66_moments.specs.{network}
+use Rattle.s66_facts.specs.{before_in}
+use Rattle.s66_reasons.specs.{each_left, load_left, with_loads}
 use Rattle.s66_reasons.proofs.arcs.arc_by_lines.Given as goal
 
 -- the loads that are left are still to be added

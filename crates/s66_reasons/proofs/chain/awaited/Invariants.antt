@@ -1,5 +1,5 @@
 use Rattle.std.proofs.Common.{◌≡◌, drop}
-use Rattle.s66_reasons.specs.ChainWords.{awaited}
+use Rattle.s66_reasons.specs.{awaited}
 use Rattle.s66_reasons.proofs.chain.awaited.Given as goal
 
 abbrev pub invariant-loop-write : goal.invariant-loop-write

@@ -1,5 +1,5 @@
 use Rattle.std.proofs.Common.{◌≡◌, drop}
-use Rattle.s66_reasons.specs.ChainWords.{lasting}
+use Rattle.s66_reasons.specs.{lasting}
 use Rattle.s66_reasons.proofs.chain.lasting.Given as goal
 
 abbrev pub invariant-loop-write : goal.invariant-loop-write

@@ -1,8 +1,7 @@
 use Rattle.std.proofs.Common.{rules, ◌≡◌, ◌+◌, ◌*◌, ◌^◌, ◌≤◌, ◌∙◌, ap, get_or}
-use Rattle.s66_model.specs.Timing.{Problem, row_at}
-use Rattle.s66_model.specs.Leaves.{link}
-use Rattle.s66_cert.specs.DocumentParts.{document_of}
-use Rattle.s66_checker.specs.Verdict.{problem_of}
+use Rattle.s66_model.specs.{Problem, row_at, link}
+use Rattle.s66_cert.specs.{document_of}
+use Rattle.s66_checker.specs.{problem_of}
 use Rattle.s66_reasons.proofs.Texts.{walk-more}
 use Rattle.s66_reasons.proofs.chain.push_walk.Goals as goal
 

@@ -1,7 +1,6 @@
 use Rattle.std.proofs.Common.{◌≡◌, ◌≤◌, ◌+◌, ◌*◌, ◌^◌, ◌++◌, drop, length}
-use Rattle.s66_cert.specs.DocumentParts.{document_of}
-use Rattle.s66_reasons.specs.Words.{rows_text}
-use Rattle.s66_reasons.specs.ChainWords.{walk_rows}
+use Rattle.s66_cert.specs.{document_of}
+use Rattle.s66_reasons.specs.{rows_text, walk_rows}
 use Rattle.s66_reasons.proofs.chain.push_walk.Given as goal
 
 abbrev pub invariant-loop-n : goal.invariant-loop-n

@@ -1,9 +1,9 @@
 use Rattle.std.proofs.Common.{◌++◌, ap, sym}
 use Rattle.std.proofs.lemmas.Result.{IfOk-equal}
-use Rattle.s66_moments.specs.declared.fact_line.FactLine.{FactLine}
-use Rattle.s66_facts.specs.BlockGround.{known_of as known_in}
-use Rattle.s66_cert.specs.DocumentParts.{document_of}
-use Rattle.s66_reasons.specs.FactWords.{fact_sentence}
+use Rattle.s66_moments.specs.{FactLine}
+use Rattle.s66_facts.specs.{known_of as known_in}
+use Rattle.s66_cert.specs.{document_of}
+use Rattle.s66_reasons.specs.{fact_sentence}
 use Rattle.s66_reasons.proofs.facts.push_fact.Goals as goal
 
 pub returns-in-Pair : goal.returns-in-Pair

@@ -1,6 +1,6 @@
 use Rattle.std.proofs.Common.{◌≡◌, ◌-◌, ◌++◌, ◌∙◌, ap, append_assoc, arith, codes, decimal, max}
 use Rattle.std.proofs.lemmas.Result.{IfOk-equal}
-use Rattle.s66_reasons.specs.FactWords.{left_to}
+use Rattle.s66_reasons.specs.{left_to}
 use Rattle.s66_reasons.proofs.facts.push_last.Goals as goal
 
 pub returns : goal.returns

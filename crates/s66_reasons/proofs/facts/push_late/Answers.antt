@@ -1,8 +1,8 @@
 use Rattle.std.proofs.Common.{◌≡◌, ◌++◌, ◌∙◌, ap, arith}
 use Rattle.std.proofs.lemmas.Result.{IfOk-equal}
-use Rattle.s66_model.specs.Timing.{Problem, row_at}
-use Rattle.s66_moments.specs.KnownFacts.{arcs_of}
-use Rattle.s66_facts.specs.BlockGround.{known_of as known_in}
+use Rattle.s66_model.specs.{Problem, row_at}
+use Rattle.s66_moments.specs.{arcs_of}
+use Rattle.s66_facts.specs.{known_of as known_in}
 use Rattle.s66_reasons.proofs.FactTexts.{late-by_parcels, late-by_unit}
 use Rattle.s66_reasons.proofs.facts.push_late.Goals as goal
 

@@ -1,10 +1,9 @@
 use Rattle.std.proofs.Common.{rules, ℕ, ◌≡◌, ◌++◌, ◌∙◌, [], true, List, ap, sym, subst}
 use Rattle.std.proofs.lemmas.Result.{IfOk-equal}
-use Rattle.s66_isa.specs.Lists.{every}
-use Rattle.s66_model.specs.Timing.{Problem}
-use Rattle.s66_model.specs.LegalOrder.{is_remaining}
-use Rattle.s66_facts.specs.BlockGround.{known_of as known_in}
-use Rattle.s66_reasons.specs.FactWords.{load_sentence}
+use Rattle.s66_isa.specs.{every}
+use Rattle.s66_model.specs.{Problem, is_remaining}
+use Rattle.s66_facts.specs.{known_of as known_in}
+use Rattle.s66_reasons.specs.{load_sentence}
 use Rattle.s66_reasons.proofs.FactTexts.{taken-remain}
 use Rattle.s66_reasons.proofs.facts.push_load_fact.Goals as goal
 

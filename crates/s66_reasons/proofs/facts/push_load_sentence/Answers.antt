@@ -1,7 +1,6 @@
 use Rattle.std.proofs.Common.{◌++◌, ◌∙◌, ap, codes, decimal}
 use Rattle.std.proofs.lemmas.Result.{IfOk-equal}
-use Rattle.s66_reasons.specs.declared.work.Work.{Work}
-use Rattle.s66_reasons.specs.FactWords.{from_words, until_words}
+use Rattle.s66_reasons.specs.{Work, from_words, until_words}
 use Rattle.s66_reasons.proofs.Texts.{joined}
 use Rattle.s66_reasons.proofs.facts.push_load_sentence.Goals as goal
 

@@ -1,5 +1,4 @@
-use Rattle.std.proofs.Common.{ℕ, List, ◌++◌, ◌∙◌, ap, decimal, get_or}
-use Rattle.std.proofs.lemmas.List.{append-nil}
+use Rattle.std.proofs.Common.{ℕ, List, ◌++◌, ◌∙◌, ap, decimal, get_or, append-nil}
 use Rattle.s66_reasons.proofs.Listed.{listed-more}
 use Rattle.s66_reasons.proofs.facts.push_numbers.Goals as goal
 

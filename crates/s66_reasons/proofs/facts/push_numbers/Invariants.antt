@@ -1,5 +1,5 @@
 use Rattle.std.proofs.Common.{◌≡◌, ◌++◌, decimal, drop}
-use Rattle.s66_reasons.specs.Words.{listed}
+use Rattle.s66_reasons.specs.{listed}
 use Rattle.s66_reasons.proofs.facts.push_numbers.Given as goal
 
 abbrev pub invariant-loop-place : goal.invariant-loop-place

@@ -1,10 +1,10 @@
 use Rattle.std.proofs.Common.{ℕ, ◌++◌, ◌∙◌, List, ap, append_assoc}
 use Rattle.std.proofs.lemmas.Result.{IfOk-equal}
-use Rattle.s66_model.specs.Timing.{Problem}
-use Rattle.s66_moments.specs.KnownFacts.{arcs_of}
-use Rattle.s66_facts.specs.BlockGround.{known_of as known_in}
-use Rattle.s66_cert.specs.DocumentParts.{document_of}
-use Rattle.s66_reasons.specs.FactWords.{late_words, pair_words}
+use Rattle.s66_model.specs.{Problem}
+use Rattle.s66_moments.specs.{arcs_of}
+use Rattle.s66_facts.specs.{known_of as known_in}
+use Rattle.s66_cert.specs.{document_of}
+use Rattle.s66_reasons.specs.{late_words, pair_words}
 use Rattle.s66_reasons.proofs.facts.push_pair.Goals as goal
 
 pub returns : goal.returns

@@ -1,5 +1,5 @@
 use Rattle.std.proofs.Common.{◌+◌, ◌<◌, ◌^◌, subst, sym}
-use Rattle.s66_model.specs.Timing.{row_at}
+use Rattle.s66_model.specs.{row_at}
 use Rattle.s66_reasons.proofs.SoonestIssue.{soonest-fits}
 use Rattle.s66_reasons.proofs.facts.soonest_issue.Goals as goal
 

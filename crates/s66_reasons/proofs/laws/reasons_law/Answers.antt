@@ -1,18 +1,13 @@
-use Rattle.std.proofs.Common.{◌≡◌, [], refl, inl, subst, sym, arith}
-use Rattle.std.proofs.lemmas.Bool.{leb-true}
-use Rattle.s66_isa.specs.Lists.{Among}
-use Rattle.s66_model.specs.Leaves.{value}
-use Rattle.s66_model.specs.Trees.{Tree, AtTerminal}
-use Rattle.s66_model.specs.DominatedLeaves.{Ending, Bounding, Factual}
-use Rattle.s66_model.specs.FactLeaves.{Next, Turned, LoadFrom}
+use Rattle.std.proofs.Common.{◌≡◌, [], refl, inl, subst, sym, arith, leb-true}
+use Rattle.s66_isa.specs.{Among}
+use Rattle.s66_model.specs.{value, Tree, AtTerminal, Ending, Bounding, Factual, Next, Turned, LoadFrom}
 use Rattle.s66_model.proofs.Remaining.{legal-parts, remaining-parts}
 use Rattle.s66_model.proofs.Trees.{leaf-sound}
-use Rattle.s66_moments.specs.KnownFacts.{next_value}
-use Rattle.s66_cert.specs.Documents.{tree_placed}
-use Rattle.s66_checker.specs.Verdict.{known_of, problem_of}
+use Rattle.s66_moments.specs.{next_value}
+use Rattle.s66_cert.specs.{tree_placed}
+use Rattle.s66_checker.specs.{known_of, problem_of}
 use Rattle.s66_checker.proofs.GrantedClaims.{granted}
-use Rattle.s66_reasons.specs.Reasons.{leaf_rows}
-use Rattle.s66_reasons.specs.Shown.{end_by}
+use Rattle.s66_reasons.specs.{leaf_rows, end_by}
 use Rattle.s66_reasons.proofs.Claimed.{claimed-leaf, faultless, granted-each, granted-next, granted-turned, right-each}
 use Rattle.s66_reasons.proofs.PathEnds.{has-none_sooner, load-shown, path-shown}
 use Rattle.s66_reasons.proofs.Rows.{rows-end}

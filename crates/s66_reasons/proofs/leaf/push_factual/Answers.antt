@@ -1,12 +1,9 @@
-use Rattle.std.proofs.Common.{◌++◌, ◌∙◌, ap, sym}
-use Rattle.std.proofs.lemmas.List.{append-nil}
+use Rattle.std.proofs.Common.{◌++◌, ◌∙◌, ap, sym, append-nil}
 use Rattle.std.proofs.lemmas.Result.{IfOk-equal}
 use Rattle.s66_model.specs.declared.lines.FactLeaf.{FactLeaf}
-use Rattle.s66_model.specs.DominatedLeaves.{Factual}
-use Rattle.s66_model.specs.Lines.{fact_leaf_of}
-use Rattle.s66_cert.specs.DocumentParts.{Parts, document_of}
-use Rattle.s66_reasons.specs.Reasons.{leaf_text, left_row}
-use Rattle.s66_reasons.specs.Words.{row_text}
+use Rattle.s66_model.specs.{Factual, fact_leaf_of}
+use Rattle.s66_cert.specs.{Parts, document_of}
+use Rattle.s66_reasons.specs.{leaf_text, left_row, row_text}
 use Rattle.s66_reasons.proofs.leaf.push_factual.Goals as goal
 
 pub returns-in-LoadFrom : goal.returns-in-LoadFrom

@@ -1,11 +1,10 @@
 use Rattle.std.proofs.Common.{ℕ, ◌≡◌, ◌++◌, ◌∙◌, List, OnOk, codes, ap, length, rules}
 use Rattle.std.proofs.lemmas.Result.{IfOk-equal}
-use Rattle.s66_model.specs.Timing.{Problem}
-use Rattle.s66_moments.specs.declared.moment.Moment.TheVariants.{Origin, End}
-use Rattle.s66_cert.specs.DocumentParts.{document_of}
-use Rattle.s66_reasons.specs.declared.work.Work.{Work}
-use Rattle.s66_why.specs.Why.{on_right}
-use Rattle.s66_reasons.specs.FactWords.{load_end, load_sentence, work_of_load}
+use Rattle.s66_model.specs.{Problem}
+use Rattle.s66_moments.specs.{Origin, End}
+use Rattle.s66_cert.specs.{document_of}
+use Rattle.s66_why.specs.{on_right}
+use Rattle.s66_reasons.specs.{Work, load_end, load_sentence, work_of_load}
 use Rattle.s66_reasons.proofs.Texts.{row-pushed}
 use Rattle.s66_reasons.proofs.leaf.push_left_row.Goals as goal
 

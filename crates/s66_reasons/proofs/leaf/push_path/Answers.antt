@@ -1,11 +1,8 @@
 use Rattle.std.proofs.Common.{ℕ, ◌++◌, ◌∙◌, List, ap, append_assoc}
 use Rattle.std.proofs.lemmas.Result.{IfOk-equal}
-use Rattle.s66_moments.specs.declared.moment.Moment.TheVariants.{At}
-use Rattle.s66_moments.specs.declared.moment.Stage.TheVariants.{Issue}
-use Rattle.s66_cert.specs.DocumentParts.{Parts, document_of}
-use Rattle.s66_reasons.specs.LongestPaths.{hops_of, path_rows}
-use Rattle.s66_reasons.specs.Words.{row_text, rows_text}
-use Rattle.s66_reasons.specs.Reasons.{issue_row}
+use Rattle.s66_moments.specs.{At, Issue}
+use Rattle.s66_cert.specs.{Parts, document_of}
+use Rattle.s66_reasons.specs.{hops_of, path_rows, row_text, rows_text, issue_row}
 use Rattle.s66_reasons.proofs.leaf.push_path.Goals as goal
 
 pub returns : goal.returns

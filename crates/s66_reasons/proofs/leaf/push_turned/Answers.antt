@@ -1,8 +1,7 @@
 use Rattle.std.proofs.Common.{rules, ◌≡◌, ◌++◌, ◌∙◌, OnOk, ap, append_assoc, codes}
 use Rattle.std.proofs.lemmas.Result.{IfOk-equal}
-use Rattle.s66_cert.specs.DocumentParts.{Parts, document_of}
-use Rattle.s66_reasons.specs.Words.{instruction}
-use Rattle.s66_reasons.specs.LongestPaths.{by_words, pairs_of}
+use Rattle.s66_cert.specs.{Parts, document_of}
+use Rattle.s66_reasons.specs.{instruction, by_words, pairs_of}
 use Rattle.s66_reasons.proofs.Texts.{joined}
 use Rattle.s66_reasons.proofs.leaf.push_turned.Goals as goal
 

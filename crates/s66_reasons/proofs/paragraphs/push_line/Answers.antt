@@ -1,9 +1,7 @@
-use Rattle.std.proofs.Common.{◌++◌, ◌∙◌, ap, sym, IfNone, Option, None, Some}
-use Rattle.std.proofs.lemmas.List.{append-nil}
+use Rattle.std.proofs.Common.{◌++◌, ◌∙◌, ap, sym, IfNone, Option, None, Some, append-nil}
 use Rattle.std.proofs.lemmas.Result.{IfOk-equal}
-use Rattle.s66_model.specs.Lines.{vertex_of}
-use Rattle.s66_cert.specs.Documents.{is_factual}
-use Rattle.s66_cert.specs.DocumentParts.{document_of}
+use Rattle.s66_model.specs.{vertex_of}
+use Rattle.s66_cert.specs.{is_factual, document_of}
 use Rattle.s66_reasons.proofs.Claimed.{granted-line, line-begins}
 use Rattle.s66_reasons.proofs.Leaves.{tree-none}
 use Rattle.s66_reasons.proofs.Texts.{leaf-line, split-line}

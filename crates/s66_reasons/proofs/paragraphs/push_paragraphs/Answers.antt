@@ -1,17 +1,14 @@
-use Rattle.std.proofs.Common.{rules, ◌^◌, ℕ, ◌<◌, ◌+◌, ◌++◌, ◌∙◌, [], List, ap, sym, subst, arith}
-use Rattle.std.proofs.lemmas.List.{append-nil, drop_all}
+use Rattle.std.proofs.Common.{rules, ◌^◌, ℕ, ◌<◌, ◌+◌, ◌++◌, ◌∙◌, [], List, ap, sym, subst, arith, append-nil}
+use Rattle.std.proofs.lemmas.List.{drop_all}
 use Rattle.std.proofs.lemmas.Option.{slice_get_within}
-use Rattle.s66_isa.specs.Lists.{Among}
-use Rattle.s66_model.specs.Trees.{Vertex}
-use Rattle.s66_model.specs.DominatedLeaves.{Ending}
-use Rattle.s66_model.specs.Lines.{vertex_of}
-use Rattle.s66_cert.specs.Documents.{tree_placed}
-use Rattle.s66_cert.specs.DocumentParts.{document_of}
-use Rattle.s66_reasons.specs.Reasons.{line_text, lines_text}
+use Rattle.s66_isa.specs.{Among}
+use Rattle.s66_isa.proofs.Lists.{got-among}
+use Rattle.s66_model.specs.{Vertex, Ending, vertex_of}
+use Rattle.s66_cert.specs.{tree_placed, document_of}
+use Rattle.s66_reasons.specs.{line_text, lines_text}
 use Rattle.s66_reasons.proofs.Claimed.{all-found, few-lines_placed}
 use Rattle.s66_reasons.proofs.Texts.{lines-more}
 use Rattle.s66_reasons.proofs.paragraphs.push_paragraphs.Goals as goal
-use Rattle.s66_isa.proofs.Lists.{got-among}
 
 pub push_line-requires-clause-among : goal.push_line-requires-clause-among
 push_line-requires-clause-among c =

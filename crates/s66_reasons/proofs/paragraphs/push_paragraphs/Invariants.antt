@@ -1,8 +1,7 @@
 use Rattle.std.proofs.Common.{◌≡◌, ◌++◌, ◌≤◌, ◌-◌, [], drop, length}
-use Rattle.s66_cert.specs.Documents.{tree_placed}
-use Rattle.s66_cert.specs.DocumentParts.{document_of}
-use Rattle.s66_checker.specs.Verdict.{problem_of}
-use Rattle.s66_reasons.specs.Reasons.{lines_text}
+use Rattle.s66_cert.specs.{tree_placed, document_of}
+use Rattle.s66_checker.specs.{problem_of}
+use Rattle.s66_reasons.specs.{lines_text}
 use Rattle.s66_reasons.proofs.paragraphs.push_paragraphs.Given as goal
 
 -- the lines that are left are still to be said

@@ -1,5 +1,5 @@
 use Rattle.std.proofs.Common.{◌≡◌, ◌++◌, drop}
-use Rattle.s66_reasons.specs.Reasons.{then_words}
+use Rattle.s66_reasons.specs.{then_words}
 use Rattle.s66_reasons.proofs.paragraphs.push_then.Given as goal
 
 abbrev pub invariant-loop-n : goal.invariant-loop-n

@@ -1,13 +1,11 @@
 use Rattle.std.proofs.Common.{ℕ, ◌≡◌, ◌+◌, ◌-◌, ◌++◌, ◌∙◌, List, OnOk, codes, ap, rules, arith}
 use Rattle.std.proofs.lemmas.Result.{IfOk-equal}
-use Rattle.s66_isa.specs.Table.{Row}
-use Rattle.s66_model.specs.Timing.{Problem, row_at}
-use Rattle.s66_model.specs.LegalOrder.{sum_remaining}
-use Rattle.s66_model.specs.Leaves.{if_last, tail}
-use Rattle.s66_cert.specs.DocumentParts.{document_of}
-use Rattle.s66_checker.specs.Verdict.{problem_of}
-use Rattle.s66_why.specs.Why.{on_right}
-use Rattle.s66_reasons.specs.Reasons.{if_last_words, last_slot}
+use Rattle.s66_isa.specs.{Row}
+use Rattle.s66_model.specs.{Problem, row_at, sum_remaining, if_last, tail}
+use Rattle.s66_cert.specs.{document_of}
+use Rattle.s66_why.specs.{on_right}
+use Rattle.s66_checker.specs.{problem_of}
+use Rattle.s66_reasons.specs.{if_last_words, last_slot}
 use Rattle.s66_reasons.proofs.Texts.{row-pushed}
 use Rattle.s66_reasons.proofs.parcels.push_last.Goals as goal
 

@@ -1,13 +1,8 @@
-use Rattle.std.proofs.Common.{ℕ, ◌≡◌, ◌+◌, ◌-◌, ◌<◌, ◌++◌, ◌∙◌, Bool, List, Vec, ap, sym, length, map, arith}
-use Rattle.std.proofs.lemmas.List.{append-nil}
-use Rattle.std.specs.List.{filter}
-use Rattle.std.specs.declared.alloc.Global.{Global}
-use Rattle.s66_isa.specs.Lists.{rising}
-use Rattle.s66_model.specs.Timing.{next}
-use Rattle.s66_model.specs.LegalOrder.{is_remaining}
-use Rattle.s66_cert.specs.DocumentParts.{document_of}
-use Rattle.s66_reasons.specs.Words.{Reason, rows_text}
-use Rattle.s66_reasons.specs.Reasons.{last_row}
+use Rattle.std.proofs.Common.{ℕ, ◌≡◌, ◌+◌, ◌-◌, ◌<◌, ◌++◌, ◌∙◌, Bool, List, Vec, ap, sym, length, map, arith, append-nil, filter, Global}
+use Rattle.s66_isa.specs.{rising}
+use Rattle.s66_model.specs.{next, is_remaining}
+use Rattle.s66_cert.specs.{document_of}
+use Rattle.s66_reasons.specs.{Reason, rows_text, last_row}
 use Rattle.s66_reasons.proofs.Texts.{filter-less, filter-more}
 use Rattle.s66_reasons.proofs.parcels.push_parcels.Goals.{then-is_remaining+in_ok-push_last, else-is_remaining}
 use Rattle.s66_reasons.proofs.parcels.push_parcels.Goals as goal

@@ -1,10 +1,8 @@
-use Rattle.std.proofs.Common.{◌≡◌, ◌+◌, ◌-◌, ◌++◌, length, map}
-use Rattle.std.specs.List.{filter}
-use Rattle.s66_isa.specs.Lists.{rising}
-use Rattle.s66_model.specs.LegalOrder.{is_remaining, remaining}
-use Rattle.s66_cert.specs.DocumentParts.{document_of}
-use Rattle.s66_reasons.specs.Words.{rows_text}
-use Rattle.s66_reasons.specs.Reasons.{last_row}
+use Rattle.std.proofs.Common.{◌≡◌, ◌+◌, ◌-◌, ◌++◌, length, map, filter}
+use Rattle.s66_isa.specs.{rising}
+use Rattle.s66_model.specs.{is_remaining, remaining}
+use Rattle.s66_cert.specs.{document_of}
+use Rattle.s66_reasons.specs.{rows_text, last_row}
 use Rattle.s66_reasons.proofs.parcels.push_parcels.Given as goal
 
 abbrev pub invariant-loop-position : goal.invariant-loop-position

@@ -1,5 +1,5 @@
 use Rattle.std.proofs.Common.{◌∙◌}
-use Rattle.s66_reasons.specs.LongestPaths.{line_name}
+use Rattle.s66_reasons.specs.{line_name}
 use Rattle.s66_reasons.proofs.Listed.{listed-more}
 use Rattle.s66_reasons.proofs.path.push_lines.Goals as goal
 

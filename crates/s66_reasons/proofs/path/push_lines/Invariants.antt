@@ -1,6 +1,5 @@
 use Rattle.std.proofs.Common.{◌≡◌, ◌++◌, drop}
-use Rattle.s66_reasons.specs.LongestPaths.{line_name}
-use Rattle.s66_reasons.specs.Words.{listed}
+use Rattle.s66_reasons.specs.{line_name, listed}
 use Rattle.s66_reasons.proofs.path.push_lines.Given as goal
 
 abbrev pub invariant-loop-place : goal.invariant-loop-place

@@ -1,7 +1,7 @@
 use Rattle.std.proofs.Common.{◌++◌, ◌∙◌, codes}
 use Rattle.std.proofs.lemmas.Result.{IfOk-equal}
-use Rattle.s66_cert.specs.DocumentParts.{document_of}
-use Rattle.s66_reasons.specs.Words.{counted, instruction}
+use Rattle.s66_cert.specs.{document_of}
+use Rattle.s66_reasons.specs.{counted, instruction}
 use Rattle.s66_reasons.proofs.Texts.{joined}
 use Rattle.s66_reasons.proofs.path.push_parcels_words.Goals as goal
 

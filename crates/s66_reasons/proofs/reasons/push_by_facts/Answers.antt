@@ -1,11 +1,9 @@
 use Rattle.std.proofs.Common.{ℕ, ◌++◌, ◌∙◌, [], List, ap, append_assoc}
 use Rattle.std.proofs.lemmas.Result.{IfOk-equal}
-use Rattle.s66_cert.specs.Documents.{tree_placed}
-use Rattle.s66_cert.specs.DocumentParts.{document_of}
-use Rattle.s66_moments.specs.Suppositions.{standing_first}
-use Rattle.s66_checker.specs.Verdict.{facts_of, problem_of}
-use Rattle.s66_reasons.specs.FactWords.{facts_from}
-use Rattle.s66_reasons.specs.Reasons.{faster_words, lines_text}
+use Rattle.s66_moments.specs.{standing_first}
+use Rattle.s66_cert.specs.{tree_placed, document_of}
+use Rattle.s66_checker.specs.{facts_of, problem_of}
+use Rattle.s66_reasons.specs.{facts_from, faster_words, lines_text}
 use Rattle.s66_reasons.proofs.reasons.push_by_facts.Goals as goal
 
 pub returns : goal.returns

@@ -1,9 +1,8 @@
 use Rattle.std.proofs.Common.{ℕ, ◌++◌, ◌∙◌, List, ap}
 use Rattle.std.proofs.lemmas.Result.{IfOk-equal}
-use Rattle.s66_cert.specs.Documents.{Document}
-use Rattle.s66_cert.specs.DocumentParts.{document_of}
+use Rattle.s66_cert.specs.{Document, document_of}
 use Rattle.s66_checker.proofs.GrantedClaims.{granted}
-use Rattle.s66_reasons.specs.Reasons.{last_line, opening, tree_text}
+use Rattle.s66_reasons.specs.{last_line, opening, tree_text}
 use Rattle.s66_reasons.proofs.Claimed.{right}
 use Rattle.s66_reasons.proofs.Texts.{joined}
 use Rattle.s66_reasons.proofs.reasons.push_reasons.Goals as goal

@@ -1,14 +1,11 @@
 use Rattle.std.proofs.Common.{◌≡◌, ◌+◌, ◌∙◌, true, List, ap, sym, drop, arith, subst, IfSome}
-use Rattle.s66_model.specs.Timing.{Problem}
-use Rattle.s66_moments.specs.declared.fact_line.FactStep.{FactStep}
-use Rattle.s66_moments.specs.Facts.{IsNumber}
-use Rattle.s66_moments.specs.Suppositions.{Standing, are_steps_taken, is_step_taken, standing_after, with_step}
-use Rattle.s66_facts.specs.Supposing.{standing_in}
-use Rattle.s66_cert.specs.DocumentParts.{document_of}
+use Rattle.s66_model.specs.{Problem}
+use Rattle.s66_moments.specs.{FactStep, IsNumber, Standing, are_steps_taken, is_step_taken, standing_after, with_step}
+use Rattle.s66_facts.specs.{standing_in}
+use Rattle.s66_cert.specs.{document_of}
 use Rattle.s66_cert.proofs.Printed.{drop-here}
-use Rattle.s66_checker.specs.Verdict.{problem_of}
-use Rattle.s66_reasons.specs.FactWords.{to_show}
-use Rattle.s66_reasons.specs.LongestPaths.{to_show_after}
+use Rattle.s66_checker.specs.{problem_of}
+use Rattle.s66_reasons.specs.{to_show, to_show_after}
 use Rattle.s66_reasons.proofs.KnownArcs.{to_show-after}
 use Rattle.s66_reasons.proofs.StepTexts.{facts-more, next-taken, number-shown}
 use Rattle.s66_reasons.proofs.steps.push_facts.Goals as goal

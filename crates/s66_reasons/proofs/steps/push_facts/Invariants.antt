@@ -1,10 +1,9 @@
 use Rattle.std.proofs.Common.{◌≡◌, ◌≤◌, ◌+◌, ◌++◌, true, drop, IfSome}
-use Rattle.s66_moments.specs.Facts.{IsNumber}
-use Rattle.s66_moments.specs.Suppositions.{are_steps_taken, standing_after, standing_first}
-use Rattle.s66_facts.specs.Supposing.{standing_in}
-use Rattle.s66_cert.specs.DocumentParts.{document_of}
-use Rattle.s66_checker.specs.Verdict.{problem_of, facts_of, standing_of}
-use Rattle.s66_reasons.specs.FactWords.{facts_from, to_show}
+use Rattle.s66_moments.specs.{IsNumber, are_steps_taken, standing_after, standing_first}
+use Rattle.s66_facts.specs.{standing_in}
+use Rattle.s66_cert.specs.{document_of}
+use Rattle.s66_checker.specs.{problem_of, facts_of, standing_of}
+use Rattle.s66_reasons.specs.{facts_from, to_show}
 use Rattle.s66_reasons.proofs.steps.push_facts.Given as goal
 
 -- what is said of the lines that are left, and that these are taken too

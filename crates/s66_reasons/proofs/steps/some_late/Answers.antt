@@ -1,7 +1,6 @@
 use Rattle.std.proofs.Common.{ℕ, ◌<◌, ◌≤◌, ◌∙◌, arith, length, sym}
-use Rattle.s66_moments.specs.KnownFacts.{arcs_of}
-use Rattle.s66_moments.specs.Networks.{Network}
-use Rattle.s66_facts.specs.BlockGround.{Ground, known_of}
+use Rattle.s66_moments.specs.{arcs_of, Network}
+use Rattle.s66_facts.specs.{Ground, known_of}
 use Rattle.s66_reasons.proofs.StepTexts.{late-here, late-later, late-none}
 use Rattle.s66_reasons.proofs.steps.some_late.Goals as goal
 

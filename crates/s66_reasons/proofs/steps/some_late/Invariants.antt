@@ -1,9 +1,8 @@
 use Rattle.std.proofs.Common.{◌≡◌, ◌+◌, ◌-◌, length}
-use Rattle.s66_isa.specs.Lists.{rising}
-use Rattle.s66_isa.specs.Table.{numbers}
-use Rattle.s66_moments.specs.KnownFacts.{arcs_of}
-use Rattle.s66_facts.specs.BlockGround.{known_of}
-use Rattle.s66_reasons.specs.FactWords.{late_number}
+use Rattle.s66_isa.specs.{rising, numbers}
+use Rattle.s66_moments.specs.{arcs_of}
+use Rattle.s66_facts.specs.{known_of}
+use Rattle.s66_reasons.specs.{late_number}
 use Rattle.s66_reasons.proofs.steps.some_late.Given as goal
 
 -- the numbers so far aren't late

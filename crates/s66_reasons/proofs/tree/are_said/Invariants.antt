@@ -1,6 +1,6 @@
 use Rattle.std.proofs.Common.{◌≡◌, length}
-use Rattle.s66_isa.specs.Lists.{every}
-use Rattle.s66_reasons.specs.Reasons.{is_line_said}
+use Rattle.s66_isa.specs.{every}
+use Rattle.s66_reasons.specs.{is_line_said}
 use Rattle.s66_reasons.proofs.tree.are_said.Given as goal
 
 abbrev pub invariant-loop-line : goal.invariant-loop-line

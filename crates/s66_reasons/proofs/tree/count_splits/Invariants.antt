@@ -1,6 +1,6 @@
 use Rattle.std.proofs.Common.{◌≡◌, ◌+◌, length}
-use Rattle.s66_isa.specs.Lists.{tally}
-use Rattle.s66_reasons.specs.Within.{is_split}
+use Rattle.s66_isa.specs.{tally}
+use Rattle.s66_reasons.specs.{is_split}
 use Rattle.s66_reasons.proofs.tree.count_splits.Given as goal
 
 abbrev pub invariant-loop-line : goal.invariant-loop-line

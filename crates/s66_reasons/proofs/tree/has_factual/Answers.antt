@@ -1,6 +1,6 @@
 use Rattle.std.proofs.Common.{◌∙◌, ap, sym}
-use Rattle.s66_isa.specs.Lists.{some_of}
-use Rattle.s66_cert.specs.Documents.{is_factual}
+use Rattle.s66_isa.specs.{some_of}
+use Rattle.s66_cert.specs.{is_factual}
 use Rattle.s66_reasons.proofs.tree.has_factual.Goals as goal
 
 pub returns : goal.returns

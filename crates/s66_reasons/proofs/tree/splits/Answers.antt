@@ -1,7 +1,7 @@
 use Rattle.std.proofs.Common.{◌∙◌, ap, subst, sym, ◌≤◌}
-use Rattle.s66_isa.specs.Lists.{tally}
-use Rattle.s66_cert.specs.declared.limits.TheConstants.{SPLIT_LIMIT}
-use Rattle.s66_reasons.specs.Within.{is_split}
+use Rattle.s66_isa.specs.{tally}
+use Rattle.s66_cert.specs.{SPLIT_LIMIT}
+use Rattle.s66_reasons.specs.{is_split}
 use Rattle.s66_reasons.proofs.Splits.{few-splits, stored-splits}
 use Rattle.s66_reasons.proofs.tree.splits.Goals as goal
 

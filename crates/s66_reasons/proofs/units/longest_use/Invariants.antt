@@ -1,5 +1,5 @@
 use Rattle.std.proofs.Common.{◌≡◌, max, drop}
-use Rattle.s66_reasons.specs.Words.{longest_use}
+use Rattle.s66_reasons.specs.{longest_use}
 use Rattle.s66_reasons.proofs.units.longest_use.Given as goal
 
 abbrev pub invariant-loop-n : goal.invariant-loop-n

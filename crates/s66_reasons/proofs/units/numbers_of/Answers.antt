@@ -1,10 +1,9 @@
 use Rattle.std.proofs.Common.{ℕ, ◌+◌, ◌≡◌, ◌≤◌, ◌&&◌, Bool, ◌∙◌, ap, sym, subst, length, arith}
 use Rattle.arrayvec.specs.ArrayVec.{ArrayVec}
-use Rattle.s66_isa.specs.Table.{same_kind}
-use Rattle.s66_model.specs.Timing.{row_at}
-use Rattle.s66_model.specs.LegalOrder.{is_remaining}
+use Rattle.s66_isa.specs.{same_kind}
+use Rattle.s66_model.specs.{row_at, is_remaining}
 use Rattle.s66_checker.proofs.NumbersInTurn.{filter_taken, filter_passed}
-use Rattle.s66_reasons.specs.Within.{AreWithin}
+use Rattle.s66_reasons.specs.{AreWithin}
 use Rattle.s66_reasons.proofs.Listed.{within-push}
 use Rattle.s66_reasons.proofs.units.numbers_of.Goals.{then-needs, else-needs}
 use Rattle.s66_reasons.proofs.units.numbers_of.Goals as goal

@@ -1,10 +1,7 @@
-use Rattle.std.proofs.Common.{◌≡◌, ◌≤◌, ◌&&◌, length}
-use Rattle.std.specs.List.{filter}
-use Rattle.s66_isa.specs.Lists.{rising}
-use Rattle.s66_isa.specs.Table.{same_kind}
-use Rattle.s66_model.specs.Timing.{row_at}
-use Rattle.s66_model.specs.LegalOrder.{is_remaining}
-use Rattle.s66_reasons.specs.Within.{AreWithin}
+use Rattle.std.proofs.Common.{◌≡◌, ◌≤◌, ◌&&◌, length, filter}
+use Rattle.s66_isa.specs.{rising, same_kind}
+use Rattle.s66_model.specs.{row_at, is_remaining}
+use Rattle.s66_reasons.specs.{AreWithin}
 use Rattle.s66_reasons.proofs.units.numbers_of.Given as goal
 
 abbrev pub invariant-loop-position : goal.invariant-loop-position

@@ -1,11 +1,10 @@
 use Rattle.std.proofs.Common.{◌≡◌, ◌++◌, ◌∙◌, ap, append_assoc, sym}
 use Rattle.std.proofs.lemmas.Result.{IfOk-equal}
-use Rattle.s66_isa.specs.Lists.{weigh}
-use Rattle.s66_model.specs.Timing.{points_of}
-use Rattle.s66_model.specs.Leaves.{rest_busy}
-use Rattle.s66_reasons.specs.Reasons.{before_words, slot_words, work_before}
-use Rattle.s66_reasons.proofs.units.push_after.Goals as goal
+use Rattle.s66_isa.specs.{weigh}
 use Rattle.s66_isa.proofs.Lists.{weigh-reverse}
+use Rattle.s66_model.specs.{points_of, rest_busy}
+use Rattle.s66_reasons.specs.{before_words, slot_words, work_before}
+use Rattle.s66_reasons.proofs.units.push_after.Goals as goal
 
 pub returns : goal.returns
 returns c =

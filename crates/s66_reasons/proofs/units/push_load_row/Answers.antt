@@ -1,11 +1,9 @@
 use Rattle.std.proofs.Common.{ℕ, ◌≡◌, ◌++◌, ◌∙◌, List, OnOk, codes, ap, append_assoc, rules}
 use Rattle.std.proofs.lemmas.Result.{IfOk-equal}
-use Rattle.s66_model.specs.Timing.{Problem, copies, next}
-use Rattle.s66_model.specs.Leaves.{load}
-use Rattle.s66_cert.specs.DocumentParts.{document_of}
-use Rattle.s66_reasons.specs.Words.{longest_use}
-use Rattle.s66_why.specs.Why.{on_right}
-use Rattle.s66_reasons.specs.Reasons.{after_words, load_words, numbers_of, slot_after, work, work_before}
+use Rattle.s66_model.specs.{Problem, copies, next, load}
+use Rattle.s66_cert.specs.{document_of}
+use Rattle.s66_why.specs.{on_right}
+use Rattle.s66_reasons.specs.{longest_use, after_words, load_words, numbers_of, slot_after, work, work_before}
 use Rattle.s66_reasons.proofs.Texts.{row-pushed}
 use Rattle.s66_reasons.proofs.units.push_load_row.Goals as goal
 

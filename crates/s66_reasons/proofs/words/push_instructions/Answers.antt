@@ -1,6 +1,6 @@
 use Rattle.std.proofs.Common.{◌∙◌}
-use Rattle.s66_cert.specs.DocumentParts.{document_of}
-use Rattle.s66_reasons.specs.Words.{instruction}
+use Rattle.s66_cert.specs.{document_of}
+use Rattle.s66_reasons.specs.{instruction}
 use Rattle.s66_reasons.proofs.Listed.{listed-more}
 use Rattle.s66_reasons.proofs.words.push_instructions.Goals as goal
 

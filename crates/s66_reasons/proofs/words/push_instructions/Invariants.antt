@@ -1,6 +1,6 @@
 use Rattle.std.proofs.Common.{◌≡◌, ◌++◌, drop}
-use Rattle.s66_cert.specs.DocumentParts.{document_of}
-use Rattle.s66_reasons.specs.Words.{instruction, listed}
+use Rattle.s66_cert.specs.{document_of}
+use Rattle.s66_reasons.specs.{instruction, listed}
 use Rattle.s66_reasons.proofs.words.push_instructions.Given as goal
 
 abbrev pub invariant-loop-place : goal.invariant-loop-place

@@ -1,13 +1,10 @@
 use Rattle.std.proofs.Common.{◌∙◌, None, List, ap, sym}
-use Rattle.s66_model.specs.Timing.{Problem}
-use Rattle.s66_moments.specs.declared.fact_line.FactStep.{FactStep}
-use Rattle.s66_moments.specs.KnownFacts.{Known}
-use Rattle.s66_moments.specs.Networks.{network}
-use Rattle.s66_facts.specs.Marked.{before_in}
-use Rattle.s66_cert.specs.DocumentParts.{Parts, document_of}
-use Rattle.s66_checker.specs.Verdict.{known_of, problem_of}
-use Rattle.s66_reasons.specs.LongestPaths.{arcs, each_left, load_left}
-use Rattle.s66_reasons.specs.Within.{with_loads}
+use Rattle.s66_model.specs.{Problem}
+use Rattle.s66_moments.specs.{FactStep, Known, network}
+use Rattle.s66_facts.specs.{before_in}
+use Rattle.s66_cert.specs.{Parts, document_of}
+use Rattle.s66_checker.specs.{known_of, problem_of}
+use Rattle.s66_reasons.specs.{arcs, each_left, load_left, with_loads}
 use Rattle.s66_reasons.proofs.KnownArcs.{arcs-lines}
 use Rattle.s66_reasons.proofs.known_paths.KnownPaths.arc.Goals as goal
 

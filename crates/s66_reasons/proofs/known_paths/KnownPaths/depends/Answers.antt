@@ -1,9 +1,8 @@
 use Rattle.std.proofs.Common.{◌∙◌, ap}
-use Rattle.s66_moments.specs.KnownFacts.{Known}
-use Rattle.s66_moments.specs.Networks.{precedes}
-use Rattle.s66_cert.specs.DocumentParts.{Parts, document_of}
-use Rattle.s66_checker.specs.Verdict.{problem_of}
-use Rattle.s66_reasons.specs.LongestPaths.{up_to}
+use Rattle.s66_moments.specs.{Known, precedes}
+use Rattle.s66_cert.specs.{Parts, document_of}
+use Rattle.s66_checker.specs.{problem_of}
+use Rattle.s66_reasons.specs.{up_to}
 use Rattle.s66_reasons.proofs.known_paths.KnownPaths.depends.Goals as goal
 
 pub returns : goal.returns

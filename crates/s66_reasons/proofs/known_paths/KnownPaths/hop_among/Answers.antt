@@ -1,7 +1,7 @@
 use Rattle.std.proofs.Common.{ℕ, ◌≡◌, ◌∙◌, ◌<◌, ap, arith, length, sym}
-use Rattle.s66_model.specs.Timing.{Problem}
-use Rattle.s66_cert.specs.DocumentParts.{Parts, document_of}
-use Rattle.s66_checker.specs.Verdict.{problem_of}
+use Rattle.s66_model.specs.{Problem}
+use Rattle.s66_cert.specs.{Parts, document_of}
+use Rattle.s66_checker.specs.{problem_of}
 use Rattle.s66_reasons.proofs.Hops.{or-nothing, or-some, past-more}
 use Rattle.s66_reasons.proofs.known_paths.KnownPaths.hop_among.Goals as goal
 

@@ -1,9 +1,9 @@
 use Rattle.std.proofs.Common.{◌≡◌, length}
-use Rattle.s66_isa.specs.Table.{numbers}
-use Rattle.s66_moments.specs.Networks.{moments_among}
-use Rattle.s66_cert.specs.DocumentParts.{document_of}
-use Rattle.s66_checker.specs.Verdict.{problem_of}
-use Rattle.s66_reasons.specs.LongestPaths.{first_hop}
+use Rattle.s66_isa.specs.{numbers}
+use Rattle.s66_moments.specs.{moments_among}
+use Rattle.s66_cert.specs.{document_of}
+use Rattle.s66_checker.specs.{problem_of}
+use Rattle.s66_reasons.specs.{first_hop}
 use Rattle.s66_reasons.proofs.Hops.{hop_past}
 use Rattle.s66_reasons.proofs.known_paths.KnownPaths.hop_among.Given as goal
 

@@ -1,9 +1,8 @@
 use Rattle.std.proofs.Common.{◌∙◌, ap}
-use Rattle.s66_moments.specs.KnownFacts.{Known}
-use Rattle.s66_cert.specs.Documents.{Document}
-use Rattle.s66_cert.specs.DocumentParts.{Parts, document_of}
-use Rattle.s66_checker.specs.Verdict.{known_of}
-use Rattle.s66_reasons.specs.LongestPaths.{pair_by}
+use Rattle.s66_moments.specs.{Known}
+use Rattle.s66_cert.specs.{Document, Parts, document_of}
+use Rattle.s66_checker.specs.{known_of}
+use Rattle.s66_reasons.specs.{pair_by}
 use Rattle.s66_reasons.proofs.known_paths.KnownPaths.leading_pair.Goals as goal
 
 pub returns : goal.returns

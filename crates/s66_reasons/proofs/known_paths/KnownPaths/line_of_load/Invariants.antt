@@ -1,6 +1,6 @@
 use Rattle.std.proofs.Common.{◌≡◌, ◌+◌, drop}
-use Rattle.s66_cert.specs.DocumentParts.{document_of}
-use Rattle.s66_reasons.specs.LongestPaths.{each_left, first_number, keeps_apart, line_of_load, load_left}
+use Rattle.s66_cert.specs.{document_of}
+use Rattle.s66_reasons.specs.{each_left, first_number, keeps_apart, line_of_load, load_left}
 use Rattle.s66_reasons.proofs.known_paths.KnownPaths.line_of_load.Given as goal
 
 abbrev pub invariant-loop-line : goal.invariant-loop-line

@@ -1,7 +1,7 @@
 use Rattle.std.proofs.Common.{◌≡◌, ◌+◌, drop}
-use Rattle.s66_facts.specs.Marked.{before_in}
-use Rattle.s66_cert.specs.DocumentParts.{document_of}
-use Rattle.s66_reasons.specs.LongestPaths.{each_left, first_number, pair_by, pair_left, puts_before}
+use Rattle.s66_facts.specs.{before_in}
+use Rattle.s66_cert.specs.{document_of}
+use Rattle.s66_reasons.specs.{each_left, first_number, pair_by, pair_left, puts_before}
 use Rattle.s66_reasons.proofs.known_paths.KnownPaths.pair_by.Given as goal
 
 abbrev pub invariant-loop-line : goal.invariant-loop-line

@@ -1,11 +1,8 @@
-use Rattle.std.proofs.Common.{ℕ, ◌≡◌, ◌<◌, ◌-◌, ◌∙◌, ◌++◌, ap, arith, length, sym}
-use Rattle.std.proofs.lemmas.Bool.{eq-eqb, ne_eqb}
-use Rattle.std.proofs.lemmas.List.{append-nil}
-use Rattle.s66_model.specs.Timing.{Problem}
-use Rattle.s66_cert.specs.Documents.{Document}
-use Rattle.s66_cert.specs.DocumentParts.{Parts, document_of}
-use Rattle.s66_checker.specs.Verdict.{problem_of}
-use Rattle.s66_reasons.specs.LongestPaths.{pairs_over}
+use Rattle.std.proofs.Common.{ℕ, ◌≡◌, ◌<◌, ◌-◌, ◌∙◌, ◌++◌, ap, arith, length, sym, eq-eqb, ne_eqb, append-nil}
+use Rattle.s66_model.specs.{Problem}
+use Rattle.s66_cert.specs.{Document, Parts, document_of}
+use Rattle.s66_checker.specs.{problem_of}
+use Rattle.s66_reasons.specs.{pairs_over}
 use Rattle.s66_reasons.proofs.PairsInTurn.{pairs-more, pairs-none}
 use Rattle.s66_reasons.proofs.known_paths.KnownPaths.pairs_of.Goals as goal
 

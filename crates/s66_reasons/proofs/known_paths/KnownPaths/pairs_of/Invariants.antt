@@ -1,7 +1,7 @@
 use Rattle.std.proofs.Common.{◌≡◌, ◌≤◌, ◌-◌, ◌++◌, length}
-use Rattle.s66_cert.specs.DocumentParts.{document_of}
-use Rattle.s66_checker.specs.Verdict.{problem_of}
-use Rattle.s66_reasons.specs.LongestPaths.{pairs_of, pairs_over}
+use Rattle.s66_cert.specs.{document_of}
+use Rattle.s66_checker.specs.{problem_of}
+use Rattle.s66_reasons.specs.{pairs_of, pairs_over}
 use Rattle.s66_reasons.proofs.known_paths.KnownPaths.pairs_of.Given as goal
 
 -- those that are still to come put the second number of the last one before n

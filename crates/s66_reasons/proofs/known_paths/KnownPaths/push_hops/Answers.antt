@@ -1,9 +1,6 @@
-use Rattle.std.proofs.Common.{rules, ℕ, ◌≡◌, ◌≤◌, ◌∙◌, ◌+◌, ◌-◌, ◌*◌, ◌^◌, ◌++◌, List, ap, arith, sym}
-use Rattle.std.proofs.lemmas.List.{append-nil}
-use Rattle.s66_cert.specs.DocumentParts.{document_of}
-use Rattle.s66_reasons.specs.declared.hop.Hop.{Hop}
-use Rattle.s66_reasons.specs.Words.{rows_text}
-use Rattle.s66_reasons.specs.LongestPaths.{hops_from, path_rows}
+use Rattle.std.proofs.Common.{rules, ℕ, ◌≡◌, ◌≤◌, ◌∙◌, ◌+◌, ◌-◌, ◌*◌, ◌^◌, ◌++◌, List, ap, arith, sym, append-nil}
+use Rattle.s66_cert.specs.{document_of}
+use Rattle.s66_reasons.specs.{Hop, rows_text, hops_from, path_rows}
 use Rattle.s66_reasons.proofs.Hops.{hops-at, none-at}
 use Rattle.s66_reasons.proofs.known_paths.KnownPaths.push_hops.Goals as goal
 

@@ -1,7 +1,6 @@
 use Rattle.std.proofs.Common.{◌≡◌, ◌≤◌, ◌-◌, ◌*◌, ◌^◌, ◌++◌}
-use Rattle.s66_cert.specs.DocumentParts.{document_of}
-use Rattle.s66_reasons.specs.Words.{rows_text}
-use Rattle.s66_reasons.specs.LongestPaths.{hops_from, path_rows}
+use Rattle.s66_cert.specs.{document_of}
+use Rattle.s66_reasons.specs.{rows_text, hops_from, path_rows}
 use Rattle.s66_reasons.proofs.known_paths.KnownPaths.push_hops.Given as goal
 
 -- the rows of the arcs from this moment on are still to come

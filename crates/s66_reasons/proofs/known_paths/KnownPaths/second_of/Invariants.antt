@@ -1,6 +1,6 @@
 use Rattle.std.proofs.Common.{◌≡◌, ◌-◌, None, drop, get_or}
-use Rattle.s66_cert.specs.DocumentParts.{document_of}
-use Rattle.s66_reasons.specs.LongestPaths.{each_left, pair_left, pairs_left}
+use Rattle.s66_cert.specs.{document_of}
+use Rattle.s66_reasons.specs.{each_left, pair_left, pairs_left}
 use Rattle.s66_reasons.proofs.known_paths.KnownPaths.second_of.Given as goal
 
 -- so many lines are still before it
