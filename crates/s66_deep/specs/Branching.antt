@@ -1,7 +1,7 @@
 -- Used by contracts: what stays so of a best-first search that goes on: its block and profile, that its best order gets no slower, and
 -- how many splits it has made.
 use Rattle.std.specs.Prelude.{ℕ, ◌≡◌, ◌≤◌}
-use Rattle.s66_model.specs.Timing.{total_of}
+use Rattle.s66_model.specs.{total_of}
 use Rattle.s66_time.specs.TimedOrder.{TimedOrder}
 
 -- an order of the same block under the same profile, which takes no more

@@ -1,7 +1,7 @@
 -- Used by contracts: what keeps the bounds safe: no sum is too great for a word, and each number has its ranks. Which values the bounds
 -- have is tested.
 use Rattle.std.specs.Prelude.{ℕ, ◌≤◌, List, get_or}
-use Rattle.s66_time.specs.Ranks.{AreUpTo, IsRanking, AreAtMost}
+use Rattle.s66_time.specs.{AreUpTo, IsRanking, AreAtMost}
 use Rattle.s66_deep.specs.declared.limits.TheConstants.{TAIL_LIMIT}
 use Rattle.s66_deep.specs.declared.floors.tables.PathTables.{PathTables}
 use Rattle.s66_deep.specs.declared.floors.tails.Tails.{Tails}

@@ -1,11 +1,9 @@
 -- Used by contracts: what is true of an order that is found, and of what is found with it.
 use Rattle.std.specs.Prelude.{ℕ, ◌≡◌, ◌≤◌}
-use Rattle.s66_isa.specs.Table.{numbers}
-use Rattle.s66_model.specs.Answer.{source_time}
-use Rattle.s66_model.specs.Timing.{Problem, total_of}
-use Rattle.s66_model.specs.Trees.{splits}
+use Rattle.s66_isa.specs.{numbers}
+use Rattle.s66_model.specs.{source_time, Problem, total_of, splits}
 use Rattle.s66_time.specs.TimedOrder.{TimedOrder}
-use Rattle.s66_cert.specs.DocumentParts.{tree_of_lines}
+use Rattle.s66_cert.specs.{tree_of_lines}
 use Rattle.s66_deep.specs.declared.look.Looked.{Looked}
 
 -- it takes no more than the source order, and is the source order if it takes as much

@@ -2,8 +2,8 @@
 //! These are the registers that they read or write, the units that they take, and memory.
 
 ghost use Rattle.std.specs.Prelude.{◌≤◌, length};
-ghost use Rattle.s66_isa.specs.declared.limits.TheConstants.{BLOCK_LIMIT};
-ghost use Rattle.s66_time.specs.Ranks.{AreUpTo};
+ghost use Rattle.s66_isa.specs.{BLOCK_LIMIT};
+ghost use Rattle.s66_time.specs.{AreUpTo};
 
 use s66_isa::{
     Kind, Memory, REGISTER_COUNT, Reg, Row, Set, Write, has_register, is_same_kind,

@@ -1,6 +1,9 @@
 //! A block under a profile, whose orders are sought.
 //! Most functions of `look.rt`, `lines.rt` and `search.rt` take one.
 
+ghost use Rattle.s66_model.specs.{Problem};
+ghost use Rattle.s66_line.specs.{instrs_of};
+
 use s66_isa::Profile;
 use s66_line::Block;
 use std::alloc::Global;
@@ -15,9 +18,6 @@ pub(crate) struct Instance<'b> {
 }
 
 impl<'b> Model for Instance<'b> {
-    ghost use Rattle.s66_line.specs.Blocks.{instrs_of};
-    ghost use Rattle.s66_model.specs.Timing.{Problem};
-
     ghost Value = { Problem };
 
     ghost view = { λ i. record { block = instrs_of i.block.now; profile = i.profile.now } };

@@ -6,7 +6,7 @@
 //! Between the bound and the best time the middle is tried, again and again.
 
 ghost use Rattle.std.specs.Prelude.{◌≡◌, IfOk, IfSome};
-ghost use Rattle.s66_deep.specs.Orders.{IsGood};
+ghost use Rattle.s66_deep.specs.{IsGood};
 
 use crate::beam::beam_below;
 use crate::facts::Finder;

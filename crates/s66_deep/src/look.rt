@@ -2,10 +2,9 @@
 //! may have these. It calls the finder, beams and searches in turn.
 
 ghost use Rattle.std.specs.Prelude.{◌≡◌, ◌≤◌, ◌+◌, ◌/◌, IfOk, IfSome};
-ghost use Rattle.s66_line.specs.Blocks.{instrs_of};
-ghost use Rattle.s66_model.specs.Answer.{source_time};
-ghost use Rattle.s66_model.specs.Timing.{Problem};
-ghost use Rattle.s66_deep.specs.Orders.{IsGood, IsLooked};
+ghost use Rattle.s66_model.specs.{source_time, Problem};
+ghost use Rattle.s66_line.specs.{instrs_of};
+ghost use Rattle.s66_deep.specs.{IsGood, IsLooked};
 
 use crate::facts::Finder;
 use crate::instance::Instance;

@@ -2,10 +2,10 @@
 //! Here are the source order, and the faster of two.
 
 ghost use Rattle.std.specs.Prelude.{◌≡◌, ◌<◌, IfSome};
-ghost use Rattle.s66_isa.specs.Table.{numbers};
-ghost use Rattle.s66_line.specs.Blocks.{instrs_of};
-ghost use Rattle.s66_model.specs.Timing.{Problem, total_of};
-ghost use Rattle.s66_deep.specs.Orders.{IsGood};
+ghost use Rattle.s66_isa.specs.{numbers};
+ghost use Rattle.s66_model.specs.{Problem, total_of};
+ghost use Rattle.s66_line.specs.{instrs_of};
+ghost use Rattle.s66_deep.specs.{IsGood};
 
 use s66_isa::Profile;
 use s66_line::Block;

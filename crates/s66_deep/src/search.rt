@@ -3,7 +3,7 @@
 //! time by the lines and the tree of a search for orders that take less.
 
 ghost use Rattle.std.specs.Prelude.{◌≤◌, ◌+◌, ◌/◌, IfOk};
-ghost use Rattle.s66_deep.specs.Orders.{IsGood};
+ghost use Rattle.s66_deep.specs.{IsGood};
 
 use crate::best_first::{Branched, Limits, branch, root_leaf};
 use crate::facts::Finder;

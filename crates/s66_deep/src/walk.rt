@@ -1,6 +1,9 @@
 //! A walk over beginnings (`PathWalk`), as that of `s66_node`, which keeps also what remains by rank, for the longest paths of `floors/`.
 
-ghost use Rattle.std.specs.Prelude.{◌≡◌};
+ghost use Rattle.std.specs.Prelude.{◌≡◌, length, ◌<◌, ◌++◌, [], ◌∷◌, true, IfSome};
+ghost use Rattle.s66_model.specs.{is_ready, IsIncomplete, total_of, vertex_of, IsShort};
+ghost use Rattle.s66_line.specs.{instrs_of};
+ghost use Rattle.s66_node.specs.Walked.{Walked};
 
 use crate::floors::{Left, PathBounds, Tails};
 use s66_isa::{BLOCK_LIMIT, KINDS, Kind, Profile, Set};
@@ -20,9 +23,6 @@ pub struct PathWalk<'a> {
 }
 
 impl<'a> Model for PathWalk<'a> {
-    ghost use Rattle.std.specs.Prelude.{◌≡◌, length};
-    ghost use Rattle.s66_node.specs.Walked.{Walked};
-
     ghost Value = { Walked };
 
     ghost view = { λ p. p.walk };
@@ -31,12 +31,6 @@ impl<'a> Model for PathWalk<'a> {
 }
 
 impl<'a> PathWalk<'a> {
-    ghost use Rattle.std.specs.Prelude.{◌≡◌, ◌<◌, ◌++◌, [], ◌∷◌, true, IfSome, length};
-    ghost use Rattle.s66_line.specs.Blocks.{instrs_of};
-    ghost use Rattle.s66_model.specs.LegalOrder.{is_ready, IsIncomplete};
-    ghost use Rattle.s66_model.specs.Timing.{total_of};
-    ghost use Rattle.s66_model.specs.Lines.{vertex_of, IsShort};
-
     /// The empty one, with what follows the stages of each number, n at place n - 1: in time quadratic in the block's length.
     pub fn new(
         block: &'a Block<'a>,

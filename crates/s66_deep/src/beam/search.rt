@@ -1,8 +1,8 @@
 //! The beam search (`beam_below`): from length to length, with at most so many beginnings of each, until orders are whole.
 
 ghost use Rattle.std.specs.Prelude.{◌≡◌, ◌<◌, IfOk, IfSome};
-ghost use Rattle.s66_line.specs.Blocks.{instrs_of};
-ghost use Rattle.s66_model.specs.Timing.{total_of};
+ghost use Rattle.s66_model.specs.{total_of};
+ghost use Rattle.s66_line.specs.{instrs_of};
 
 use crate::beam::depth::{Beginning, next_depth};
 use crate::floors::Tails;

@@ -5,8 +5,7 @@
 //! use, which the checker tests anew.
 
 ghost use Rattle.std.specs.Prelude.{◌+◌, ◌<◌, ◌≤◌};
-ghost use Rattle.s66_deep.specs.declared.best_first.allowed.TheConstants.{LANES};
-ghost use Rattle.s66_deep.specs.declared.best_first.waits.TheConstants.{WORD_COUNT};
+ghost use Rattle.s66_deep.specs.{LANES, WORD_COUNT};
 
 use crate::best_first::remaining::Remaining;
 use crate::best_first::waits::{WORD_COUNT, Waits, all_free_at, one_free_at, word};
@@ -58,8 +57,7 @@ fn are_lanes_allowed(words: &[u16; WORD_COUNT], allowed: &[u16; WORD_COUNT], fir
 
 impl Allowed {
     ghost use Rattle.std.specs.Prelude.{◌+◌, ◌<◌, ◌≤◌};
-    ghost use Rattle.s66_deep.specs.declared.best_first.allowed.TheConstants.{LANES};
-    ghost use Rattle.s66_deep.specs.declared.best_first.waits.TheConstants.{WORD_COUNT};
+    ghost use Rattle.s66_deep.specs.{LANES, WORD_COUNT};
 
     /// By the words of a prefix, which has this clock.
     pub(crate) fn of(waits: &Waits, clock: &Clock<'_>) -> Allowed {

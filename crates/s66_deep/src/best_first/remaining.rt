@@ -45,8 +45,8 @@ pub(crate) struct Remaining<'s, 'a> {
 
 impl<'s, 'a> Remaining<'s, 'a> {
     ghost use Rattle.std.specs.Prelude.{◌<◌};
-    ghost use Rattle.s66_isa.specs.declared.reg.TheConstants.{REGISTER_COUNT};
-    ghost use Rattle.s66_deep.specs.declared.best_first.waits.TheConstants.{WORD_COUNT};
+    ghost use Rattle.s66_isa.specs.{REGISTER_COUNT};
+    ghost use Rattle.s66_deep.specs.{WORD_COUNT};
 
     /// After the prefix of a clock.
     pub(crate) fn new(

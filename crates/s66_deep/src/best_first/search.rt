@@ -6,9 +6,9 @@
 //! dominates is decided by what remains (`allowed.rt`), so that more prefixes are closed than by a comparison of all times.
 
 ghost use Rattle.std.specs.Prelude.{◌≡◌, ◌≤◌, IfOk};
-ghost use Rattle.s66_line.specs.Blocks.{instrs_of};
-ghost use Rattle.s66_model.specs.Timing.{total_of};
-ghost use Rattle.s66_deep.specs.Branching.{IsNoSlower};
+ghost use Rattle.s66_model.specs.{total_of};
+ghost use Rattle.s66_line.specs.{instrs_of};
+ghost use Rattle.s66_deep.specs.{IsNoSlower};
 
 use crate::best_first::instructions::Instructions;
 use crate::best_first::loads::Loads;
@@ -110,8 +110,8 @@ fn keep_faster(prefix: &PathWalk<'_>, best: &mut Timed)
 
 impl<'a> Search<'a> {
     ghost use Rattle.std.specs.Prelude.{◌≡◌, ◌≤◌, ◌<◌};
-    ghost use Rattle.s66_isa.specs.declared.limits.TheConstants.{BLOCK_LIMIT};
-    ghost use Rattle.s66_deep.specs.Branching.{SearchGoesOn, Looks};
+    ghost use Rattle.s66_isa.specs.{BLOCK_LIMIT};
+    ghost use Rattle.s66_deep.specs.{SearchGoesOn, Looks};
 
     /// The prefix at which the trail is, as that of a node: the place in its word of its next parcel, and its floor.
     fn probe(&self, node: u32, place: u8, floor: u32) -> Probe {

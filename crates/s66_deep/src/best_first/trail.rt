@@ -2,7 +2,8 @@
 //! It goes back to the last node that both share, and on from there.
 
 ghost use Rattle.std.specs.Prelude.{◌≡◌};
-ghost use Rattle.s66_isa.specs.declared.limits.TheConstants.{BLOCK_LIMIT};
+ghost use Rattle.s66_isa.specs.{BLOCK_LIMIT};
+ghost use Rattle.s66_model.specs.{Problem};
 
 use crate::best_first::nodes::{Nodes, ROOT};
 use crate::walk::PathWalk;
@@ -21,16 +22,12 @@ pub(crate) struct Trail<'a> {
 }
 
 impl<'a> Model for Trail<'a> {
-    ghost use Rattle.s66_model.specs.Timing.{Problem};
-
     ghost Value = { Problem };
 
     ghost view = { λ t. t.prefix.problem };
 }
 
 impl<'a> Trail<'a> {
-    ghost use Rattle.std.specs.Prelude.{◌≡◌};
-
     /// At the root.
     pub(crate) fn new(prefix: PathWalk<'a>) -> Trail<'a>
         ensures { result ≡ prefix.entry.problem }

@@ -2,7 +2,7 @@
 //! A prefix is compared with those of the same set.
 
 ghost use Rattle.std.specs.Prelude.{◌≤◌, length};
-ghost use Rattle.s66_deep.specs.declared.limits.TheConstants.{TRANSPOSITIONS_LIMIT};
+ghost use Rattle.s66_deep.specs.{TRANSPOSITIONS_LIMIT};
 
 use crate::best_first::allowed::Allowed;
 use crate::best_first::nodes::Nodes;
@@ -113,7 +113,7 @@ impl Key {
 
 impl Transpositions {
     ghost use Rattle.std.specs.Prelude.{◌≤◌, length};
-    ghost use Rattle.s66_deep.specs.declared.limits.TheConstants.{TRANSPOSITIONS_LIMIT};
+    ghost use Rattle.s66_deep.specs.{TRANSPOSITIONS_LIMIT};
 
     /// No prefix under a profile.
     pub(crate) fn new(alloc: Global, profile: &Profile) -> Transpositions {

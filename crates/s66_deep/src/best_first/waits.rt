@@ -2,7 +2,7 @@
 //! They are 64 words of 16 bits, of registers, readers, memory and units, which are compared eight at a time.
 
 ghost use Rattle.std.specs.Prelude.{◌+◌, ◌<◌};
-ghost use Rattle.s66_deep.specs.declared.best_first.waits.TheConstants.{WORD_COUNT};
+ghost use Rattle.s66_deep.specs.{WORD_COUNT};
 
 use s66_isa::{KIND_COUNT, KINDS, Kind, Memory, REGISTER_COUNT, Reg, kind_number};
 use s66_time::Clock;

@@ -2,7 +2,7 @@
 //! It is their rows, how many units there are, and which instructions take each kind.
 
 ghost use Rattle.std.specs.Prelude.{◌≤◌, length};
-ghost use Rattle.s66_isa.specs.declared.limits.TheConstants.{BLOCK_LIMIT};
+ghost use Rattle.s66_isa.specs.{BLOCK_LIMIT};
 
 use crate::facts::copies::copy_of;
 use arrayvec::ArrayVec;

@@ -2,8 +2,8 @@
 //! It has sets in both directions, and an order of the numbers in which each comes after what stands before it.
 
 ghost use Rattle.std.specs.Prelude.{◌≤◌};
-ghost use Rattle.s66_isa.specs.declared.limits.TheConstants.{BLOCK_LIMIT};
-ghost use Rattle.s66_moments.specs.Facts.{IsNumber};
+ghost use Rattle.s66_isa.specs.{BLOCK_LIMIT};
+ghost use Rattle.s66_moments.specs.{IsNumber};
 
 use arrayvec::ArrayVec;
 use s66_facts::Facts;

@@ -2,8 +2,7 @@
 //! Lines are taken only if `Facts` takes them.
 
 ghost use Rattle.std.specs.Prelude.{◌≤◌, ◌<◌, ◌+◌, IsTrue, not, length};
-ghost use Rattle.s66_facts.specs.declared.limits.TheConstants.{FACT_LIMIT};
-ghost use Rattle.s66_facts.specs.BlockGround.{known_of};
+ghost use Rattle.s66_facts.specs.{FACT_LIMIT, known_of};
 
 use crate::facts::ground::Ground;
 use s66_facts::{FACT_LIMIT, Facts};

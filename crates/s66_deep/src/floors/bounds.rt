@@ -5,6 +5,9 @@
 //! the end; the greatest of these is a lower bound. It is the critical path through all stages of what remains, by a network that fact
 //! lines make sharper.
 
+ghost use Rattle.std.specs.Prelude.{◌≡◌, ◌≤◌, length};
+ghost use Rattle.s66_line.specs.{instrs_of};
+
 use crate::floors::left::Left;
 use crate::floors::tables::PathTables;
 use crate::floors::tails::{Tails, cut_all};
@@ -26,7 +29,7 @@ pub struct PathBounds<'a> {
 
 impl<'a> Model for PathBounds<'a> {
     ghost use Rattle.std.specs.Prelude.{ℕ, length};
-    ghost use Rattle.s66_line.specs.Blocks.{instrs_of};
+    ghost use Rattle.s66_line.specs.{instrs_of};
     ghost use Rattle.s66_deep.specs.FollowingWords.{HasSmallWords, HasRanks};
 
     ghost Value = { ℕ };
@@ -37,9 +40,6 @@ impl<'a> Model for PathBounds<'a> {
 }
 
 impl<'a> PathBounds<'a> {
-    ghost use Rattle.std.specs.Prelude.{◌≡◌, ◌≤◌, length};
-    ghost use Rattle.s66_line.specs.Blocks.{instrs_of};
-
     /// Of a block under a profile, by what follows the stages of each number, n at place n - 1, in some network: in time quadratic in
     /// the block's length.
     pub fn new(

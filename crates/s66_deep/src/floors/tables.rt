@@ -2,10 +2,9 @@
 //! memory.
 
 ghost use Rattle.std.specs.Prelude.{ℕ, ◌≤◌, length};
-ghost use Rattle.s66_isa.specs.declared.limits.TheConstants.{BLOCK_LIMIT};
-ghost use Rattle.s66_time.specs.Ranks.{IsRanking, AreAtMost};
-ghost use Rattle.s66_deep.specs.declared.limits.TheConstants.{TAIL_LIMIT};
-ghost use Rattle.s66_deep.specs.FollowingWords.{AreSmall, AreSmallWords, HasSmallWords, HasRanks};
+ghost use Rattle.s66_isa.specs.{BLOCK_LIMIT};
+ghost use Rattle.s66_time.specs.{IsRanking, AreAtMost};
+ghost use Rattle.s66_deep.specs.{TAIL_LIMIT, AreSmall, AreSmallWords, HasSmallWords, HasRanks};
 
 use crate::classes::{Class, Role, those_of, users_of};
 use crate::floors::tails::{Stage, Tails};

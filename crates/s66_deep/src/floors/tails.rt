@@ -1,8 +1,7 @@
 //! What follows the stages of an instruction: by how much the end comes later than each.
 
 ghost use Rattle.std.specs.Prelude.{◌≤◌};
-ghost use Rattle.s66_deep.specs.declared.limits.TheConstants.{TAIL_LIMIT};
-ghost use Rattle.s66_deep.specs.FollowingWords.{IsSmall, AreSmall};
+ghost use Rattle.s66_deep.specs.{TAIL_LIMIT, IsSmall, AreSmall};
 
 use crate::limits::TAIL_LIMIT;
 use s66_isa::BLOCK_LIMIT;

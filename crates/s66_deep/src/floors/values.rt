@@ -2,10 +2,8 @@
 //! values are in minor cycles.
 
 ghost use Rattle.std.specs.Prelude.{◌+◌, ◌≤◌};
-ghost use Rattle.s66_time.specs.Ranks.{AreAtMost};
-ghost use Rattle.s66_time.specs.declared.limits.TheConstants.{TOTAL_LIMIT};
-ghost use Rattle.s66_deep.specs.declared.limits.TheConstants.{TAIL_LIMIT};
-ghost use Rattle.s66_deep.specs.FollowingWords.{AreSmallWords, HasSmallWords};
+ghost use Rattle.s66_time.specs.{AreAtMost, TOTAL_LIMIT};
+ghost use Rattle.s66_deep.specs.{TAIL_LIMIT, AreSmallWords, HasSmallWords};
 
 use crate::floors::left::Left;
 use crate::floors::tables::PathTables;

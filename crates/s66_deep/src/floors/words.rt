@@ -1,8 +1,8 @@
 //! What the words of a clock are for one instruction, as if it came next, in minor cycles.
 
 ghost use Rattle.std.specs.Prelude.{◌+◌, ◌≤◌};
-ghost use Rattle.s66_time.specs.declared.limits.TheConstants.{TOTAL_LIMIT};
-ghost use Rattle.s66_deep.specs.FollowingWords.{IsSmall};
+ghost use Rattle.s66_time.specs.{TOTAL_LIMIT};
+ghost use Rattle.s66_deep.specs.{IsSmall};
 
 use crate::floors::tails::Tails;
 use s66_isa::{Reg, Row, Write};

@@ -1,8 +1,6 @@
 use Rattle.std.proofs.Common.{ℕ, ◌+◌, true≢false, refl, sym, ap, arith, inl, inr, ◌∙◌, ne_eqb}
 use Rattle.std.proofs.lemmas.Bool.{cases_eq}
-use Rattle.s66_isa.specs.Lists.{has}
-use Rattle.s66_isa.specs.declared.set.Set.{Set}
-use Rattle.s66_isa.specs.Members.{numbers_in}
+use Rattle.s66_isa.specs.{has, Set, numbers_in}
 use Rattle.s66_deep.proofs.classes.those_of.Goals.{then-is_in, else-is_in}
 use Rattle.s66_deep.proofs.classes.those_of.Goals as goal
 

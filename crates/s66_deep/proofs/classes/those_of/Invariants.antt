@@ -1,5 +1,5 @@
 use Rattle.std.proofs.Common.{length}
-use Rattle.s66_time.specs.Ranks.{AreUpTo}
+use Rattle.s66_time.specs.{AreUpTo}
 use Rattle.s66_deep.proofs.classes.those_of.Given as goal
 
 abbrev pub invariant-loop-place : goal.invariant-loop-place

@@ -1,4 +1,4 @@
-use Rattle.s66_deep.specs.Orders.{IsGood}
+use Rattle.s66_deep.specs.{IsGood}
 use Rattle.s66_deep.proofs.lines.best_by_beams.Given as goal
 
 abbrev pub invariant-loop-width : goal.invariant-loop-width

@@ -1,4 +1,4 @@
-use Rattle.s66_deep.specs.Orders.{IsGood}
+use Rattle.s66_deep.specs.{IsGood}
 use Rattle.s66_deep.proofs.lines.halve.Given as goal
 
 abbrev pub invariant-loop : goal.invariant-loop

@@ -1,5 +1,5 @@
 use Rattle.std.proofs.Common.{◌≤◌}
-use Rattle.s66_deep.specs.Orders.{IsGood}
+use Rattle.s66_deep.specs.{IsGood}
 use Rattle.s66_deep.proofs.search.raise.Given as goal
 
 abbrev pub invariant-loop : goal.invariant-loop

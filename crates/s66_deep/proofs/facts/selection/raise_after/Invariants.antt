@@ -1,5 +1,5 @@
 use Rattle.std.proofs.Common.{length}
-use Rattle.s66_isa.specs.Members.{numbers_in}
+use Rattle.s66_isa.specs.{numbers_in}
 use Rattle.s66_deep.proofs.facts.selection.raise_after.Given as goal
 
 abbrev pub decreases-loop-m : goal.decreases-loop-m

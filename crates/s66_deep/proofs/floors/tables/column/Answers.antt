@@ -1,6 +1,6 @@
 use Rattle.std.proofs.Common.{◌≤◌, arith}
-use Rattle.s66_isa.specs.declared.limits.TheConstants.{BLOCK_LIMIT}
-use Rattle.s66_deep.specs.declared.limits.TheConstants.{TAIL_LIMIT}
+use Rattle.s66_isa.specs.{BLOCK_LIMIT}
+use Rattle.s66_deep.specs.{TAIL_LIMIT}
 use Rattle.s66_deep.proofs.Each.{each-set, each-filled}
 use Rattle.s66_deep.proofs.floors.tables.column.Goals as goal
 

@@ -1,6 +1,6 @@
 use Rattle.std.proofs.Common.{arith}
-use Rattle.s66_isa.specs.declared.limits.TheConstants.{BLOCK_LIMIT}
-use Rattle.s66_deep.specs.FollowingWords.{no_tails, IsSmall}
+use Rattle.s66_isa.specs.{BLOCK_LIMIT}
+use Rattle.s66_deep.specs.{no_tails, IsSmall}
 use Rattle.s66_deep.proofs.Each.{each-set, each-filled}
 use Rattle.s66_deep.proofs.floors.tails.cut_all.Goals as goal
 

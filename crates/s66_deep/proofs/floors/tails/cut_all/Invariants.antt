@@ -1,4 +1,4 @@
-use Rattle.s66_deep.specs.FollowingWords.{AreSmall}
+use Rattle.s66_deep.specs.{AreSmall}
 use Rattle.s66_deep.proofs.floors.tails.cut_all.Given as goal
 
 abbrev pub invariant-loop-place : goal.invariant-loop-place

@@ -1,5 +1,5 @@
 use Rattle.std.proofs.Common.{◌≤◌, length}
-use Rattle.s66_isa.specs.Registers.{registers_in}
+use Rattle.s66_isa.specs.{registers_in}
 use Rattle.s66_deep.proofs.floors.values.with_readers.Given as goal
 
 abbrev pub decreases-loop-register : goal.decreases-loop-register

@@ -1,6 +1,6 @@
 use Rattle.std.proofs.Common.{arith}
 use Rattle.s66_model.proofs.Issue.{done_of-le-total}
-use Rattle.s66_time.specs.Ticking.{points}
+use Rattle.s66_time.specs.{points}
 use Rattle.s66_deep.proofs.floors.words.done_of.Goals as goal
 
 pub returns : goal.returns

@@ -1,5 +1,5 @@
 use Rattle.std.proofs.Common.{ℕ, ◌≡◌, ◌<◌, ◌-◌, length, get_or, take, sym, subst, arith}
-use Rattle.s66_model.specs.LegalOrder.{IsBeginning}
+use Rattle.s66_model.specs.{IsBeginning}
 use Rattle.s66_model.proofs.LegalOrders.{ready-parts}
 use Rattle.s66_node.proofs.Standing.{ready-at}
 use Rattle.s66_deep.proofs.walk.PathWalk.undo.Goals as goal

@@ -1,4 +1,4 @@
-use Rattle.s66_deep.specs.Branching.{SearchGoesOn}
+use Rattle.s66_deep.specs.{SearchGoesOn}
 use Rattle.s66_deep.proofs.best_first.search.Search.run.Given as goal
 
 abbrev pub invariant-loop : goal.invariant-loop

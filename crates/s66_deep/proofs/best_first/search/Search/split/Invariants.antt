@@ -1,4 +1,4 @@
-use Rattle.s66_deep.specs.Branching.{Looks}
+use Rattle.s66_deep.specs.{Looks}
 use Rattle.s66_deep.proofs.best_first.search.Search.split.Given as goal
 
 abbrev pub invariant-loop-n : goal.invariant-loop-n

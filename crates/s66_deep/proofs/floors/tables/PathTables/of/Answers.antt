@@ -1,5 +1,5 @@
 use Rattle.std.proofs.Common.{sym, ap, arith, length, ◌∙◌}
-use Rattle.s66_isa.specs.Lists.{has, rising}
+use Rattle.s66_isa.specs.{has, rising}
 use Rattle.s66_isa.proofs.Lists.{among-rising, has-among}
 use Rattle.s66_deep.proofs.floors.tables.PathTables.of.Goals as goal
 
