@@ -1,27 +1,18 @@
 -- The document of an answer is a document, whose tree its lines determine.
-use Rattle.std.proofs.Common.{ℕ, zero, suc, ◌+◌, ◌≤◌, ◌≡◌, Bool, true, false, not, if◌then◌else◌, List, [], ◌∷◌, ◌++◌, length, refl, sym, ap, arith, inl, inr, subst, ◌∙◌, None, map}
-use Rattle.std.proofs.lemmas.Bool.{and_parts, ltb-true}
-use Rattle.std.proofs.lemmas.List.{length-append, length-map}
+use Rattle.std.proofs.Common.{ℕ, zero, suc, ◌+◌, ◌≤◌, ◌≡◌, Bool, true, false, not, if◌then◌else◌, List, [], ◌∷◌, ◌++◌, length, refl, sym, ap, arith, inl, inr, subst, ◌∙◌, None, map, ltb-true}
+use Rattle.std.proofs.Common.{length-append, All, nat_lt}
+use Rattle.std.proofs.lemmas.Bool.{and_parts}
+use Rattle.std.proofs.lemmas.List.{length-map}
 use Rattle.std.proofs.lemmas.List.Elements.{All-head, All-tail}
 use Rattle.std.proofs.lemmas.List.Filters.{length-filter_both}
-use Rattle.std.specs.Prelude.{All, nat_lt}
-use Rattle.s66_isa.specs.declared.instr.Instr.{Instr}
-use Rattle.s66_isa.specs.declared.profile.Profile.{Profile}
-use Rattle.s66_isa.specs.Lists.{Among, rising, some_of}
-use Rattle.s66_isa.specs.Table.{entries, numbers}
+use Rattle.s66_isa.specs.{Instr, Profile, Among, rising, some_of, entries, numbers, BLOCK_LIMIT, PROFILE_LIMIT}
 use Rattle.s66_isa.proofs.Lists.{least-le}
 use Rattle.s66_isa.proofs.Profiles.{entries-in-range}
-use Rattle.s66_isa.specs.declared.limits.TheConstants.{BLOCK_LIMIT, PROFILE_LIMIT}
-use Rattle.s66_line.specs.Blocks.{instrs_of, text_of, Block}
-use Rattle.s66_model.specs.Answer.{Answer, IsAnswer, MayEnd, ending_values}
-use Rattle.s66_model.specs.Leaves.{Leaf, Whole, Chain, Load, Parcels, MayStand, IsWalk, link, floor}
-use Rattle.s66_model.specs.LegalOrder.{Completes, GoesOn, IsBeginning, IsIncomplete, IsLegal, is_ready, ready}
-use Rattle.s66_model.specs.Timing.{Problem, next, points_of, row_at}
-use Rattle.s66_model.specs.Dominance.{Clamp, DominatesBy, clamp_at, no_clamp}
-use Rattle.s66_model.specs.declared.rule.Rule.{Rule}
-use Rattle.s66_model.specs.declared.rule.Rule.TheVariants.{NoneNamed, WrittenEarlier, ClampedStanding}
-use Rattle.s66_model.specs.Trees.{Tree, Alone, Parted, Siblings, NoMore, Unsplit, Split, SiblingsHold, TreeHolds, Vertex, AtTerminal, AtSplit, flat, flat_siblings, splits, tree_values}
-use Rattle.s66_model.specs.DominatedLeaves.{Ending, Bounding, Dominated, Factual, DominatesByRule, EndingShows, MayBeDominated, ShowsBy}
+use Rattle.s66_model.specs.Answer.{Answer}
+use Rattle.s66_model.specs.{IsAnswer, MayEnd, ending_values, Leaf, Whole, Chain, Load, Parcels, MayStand, IsWalk, link, floor, Completes, GoesOn, IsBeginning, IsIncomplete, IsLegal, is_ready, ready}
+use Rattle.s66_model.specs.{Problem, next, points_of, row_at, Clamp, DominatesBy, clamp_at, no_clamp, Rule, NoneNamed, WrittenEarlier, ClampedStanding, Tree, Alone, Parted, Siblings, NoMore, Unsplit}
+use Rattle.s66_model.specs.{Split, SiblingsHold, TreeHolds, Vertex, AtTerminal, AtSplit, flat, flat_siblings, splits, tree_values, Ending, Bounding, Dominated, Factual, DominatesByRule, EndingShows}
+use Rattle.s66_model.specs.{MayBeDominated, ShowsBy, has_dominated_line}
 use Rattle.s66_model.proofs.AnswerBound.{AreReady, answer-shown, split-ready}
 use Rattle.s66_model.proofs.Beginnings.{beginning-front, length-rising}
 use Rattle.s66_model.proofs.Dominating.{length-same}
@@ -30,12 +21,10 @@ use Rattle.s66_model.proofs.Forests.{read-flat, tree-match}
 use Rattle.s66_model.proofs.Growth.{total-le}
 use Rattle.s66_model.proofs.LegalOrders.{legal-order, ready-parts}
 use Rattle.s66_model.proofs.Remaining.{among-ready, legal-parts, ready-among, remaining-parts, rest-first, step-begins}
-use Rattle.s66_cert.specs.declared.limits.TheConstants.{SPLIT_LIMIT, TIME_LIMIT}
-use Rattle.s66_model.specs.Lines.{has_dominated_line}
-use Rattle.s66_cert.specs.Documents.{AreIn, AreInstructions, AreNumbers, IsDocument, IsLeafLine, SiblingsFit, TreeFits, is_factual, has_dominated, has_factual, names_nodes}
-use Rattle.s66_cert.specs.DocumentParts.{Parts, AreWhole, document_of, tree_of_lines}
-use Rattle.s66_answer.specs.ProvedAnswers.{IsSpelled}
-use Rattle.s66_answer.specs.Answers.{document_under, rule_of, searched, texts_of}
+use Rattle.s66_line.specs.{instrs_of, text_of, Block}
+use Rattle.s66_cert.specs.{SPLIT_LIMIT, TIME_LIMIT, AreIn, AreInstructions, AreNumbers, IsDocument, IsLeafLine, SiblingsFit, TreeFits, is_factual, has_dominated, has_factual, names_nodes, Parts}
+use Rattle.s66_cert.specs.{AreWhole, document_of, tree_of_lines}
+use Rattle.s66_answer.specs.{IsSpelled, document_under, rule_of, searched, texts_of}
 
 -- RANGES
 

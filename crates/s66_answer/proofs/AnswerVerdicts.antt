@@ -1,30 +1,18 @@
 -- A checker finds no fault in the document of what a search answers.
 use Rattle.std.proofs.Common.{ℕ, zero, suc, ◌+◌, ◌≡◌, ◌≤◌, ◌∙◌, List, [], ◌∷◌, None, Ok, length, map, refl, sym, ap₂, subst, arith}
-use Rattle.s66_isa.specs.declared.instr.Instr.{Instr}
-use Rattle.s66_isa.specs.Lists.{Among, rising}
-use Rattle.s66_isa.specs.declared.profile.Profile.{Profile}
-use Rattle.s66_isa.specs.Table.{instr_at}
+use Rattle.s66_isa.specs.{Instr, Among, rising, Profile, instr_at, BLOCK_LIMIT}
 use Rattle.s66_isa.proofs.Profiles.{profile_of-entries}
-use Rattle.s66_isa.specs.declared.limits.TheConstants.{BLOCK_LIMIT}
-use Rattle.s66_line.specs.Blocks.{instrs_of, text_of, Block}
-use Rattle.s66_line.specs.InstructionText.{Spells, instr_in_text}
-use Rattle.s66_source.specs.LeftAlone.{Reading}
-use Rattle.s66_source.specs.Source.{source_of}
-use Rattle.s66_source.proofs.SpelledLaw.{some, few, spelled}
-use Rattle.s66_model.specs.Answer.{Answer, IsAnswer}
-use Rattle.s66_model.specs.LegalOrder.{IsLegal}
-use Rattle.s66_model.specs.Timing.{Problem, total_of}
-use Rattle.s66_model.specs.declared.rule.Rule.{Rule}
-use Rattle.s66_model.specs.DominatedLeaves.{ShowsBy}
+use Rattle.s66_model.specs.Answer.{Answer}
+use Rattle.s66_model.specs.{IsAnswer, IsLegal, Problem, total_of, Rule, ShowsBy}
 use Rattle.s66_model.proofs.WrittenOrders.{block-by_numbers}
-use Rattle.s66_cert.specs.declared.limits.TheConstants.{SPLIT_LIMIT}
-use Rattle.s66_cert.specs.Documents.{Document, IsDocument}
-use Rattle.s66_checker.specs.TrueClaims.{IsTrueClaim}
-use Rattle.s66_checker.specs.declared.verdict.Verdict.TheVariants.{Yes}
+use Rattle.s66_line.specs.{instrs_of, text_of, Block, Spells, instr_in_text}
+use Rattle.s66_source.specs.{Reading, source_of}
+use Rattle.s66_source.proofs.SpelledLaw.{some, few, spelled}
+use Rattle.s66_cert.specs.{SPLIT_LIMIT, Document, IsDocument}
+use Rattle.s66_checker.specs.{IsTrueClaim, Yes}
 use Rattle.s66_checker.specs.Verdict as checker
 use Rattle.s66_checker.proofs.GrantedClaims.{verdict-yes}
-use Rattle.s66_answer.specs.ProvedAnswers.{IsSpelled, IsSpelledBlock}
-use Rattle.s66_answer.specs.Answers.{Answer as Answered, document_under, problem_of, rule_of, searched}
+use Rattle.s66_answer.specs.{IsSpelled, IsSpelledBlock, Answer as Answered, document_under, problem_of, rule_of, searched}
 use Rattle.s66_answer.proofs.AnswerDocuments.{search-document, answer-shows, bound-within}
 
 instr-in : (text : List ℕ) (n : Instr) → Spells text n → instr_in_text text ≡ n

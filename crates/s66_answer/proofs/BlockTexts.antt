@@ -1,13 +1,10 @@
 -- The texts of a block's instructions, made or appended one after the other.
 use Rattle.std.proofs.Common.{ℕ, ◌+◌, ◌-◌, ◌≡◌, ◌<◌, ◌∙◌, List, [], ◌∷◌, ◌++◌, inl, inr, length, map, ap, sym, subst, arith, append_assoc}
 use Rattle.std.proofs.lemmas.Bool.{cases_lt}
-use Rattle.s66_isa.specs.Lists.{rising}
-use Rattle.s66_isa.specs.Table.{instr_at}
-use Rattle.s66_line.specs.Blocks.{instrs_of, text_of, Block}
-use Rattle.s66_line.specs.InstructionText.{IsTextOf}
-use Rattle.s66_answer.specs.ProvedAnswers.{IsSpelledTo}
-use Rattle.s66_answer.specs.Answers.{texts_of}
+use Rattle.s66_isa.specs.{rising, instr_at}
 use Rattle.s66_isa.proofs.Lists.{rising-next}
+use Rattle.s66_line.specs.{instrs_of, text_of, Block, IsTextOf}
+use Rattle.s66_answer.specs.{IsSpelledTo, texts_of}
 
 pub spelled-more : (block : Block) (k : ℕ) → IsSpelledTo block k → IsTextOf (text_of block (k + 1)) (instr_at (instrs_of block) (k + 1)) → IsSpelledTo block (k + 1)
 spelled-more block k spelled is n least most =

@@ -1,19 +1,14 @@
 -- What is true of every answer, by a search or by facts.
-use Rattle.std.proofs.Common.{◌≡◌, ◌*◌, ◌≤◌, ◌<◌, ◌∙◌, ap, arith, false, inl, inr, sym, subst}
-use Rattle.std.proofs.lemmas.Bool.{true≢false}
-use Rattle.s66_isa.specs.declared.limits.TheConstants.{BLOCK_LIMIT}
-use Rattle.s66_isa.specs.declared.profile.Profile.{Profile}
-use Rattle.s66_line.specs.Blocks.{instrs_of, Block}
-use Rattle.s66_model.specs.Timing.{Problem, total_of}
-use Rattle.s66_model.specs.BestAndBound.{IsBound}
-use Rattle.s66_model.specs.LegalOrder.{IsLegal}
-use Rattle.s66_cert.specs.Documents.{IsDocument}
+use Rattle.std.proofs.Common.{◌≡◌, ◌*◌, ◌≤◌, ◌<◌, ◌∙◌, ap, arith, false, inl, inr, sym, subst, true≢false}
+use Rattle.s66_isa.specs.{BLOCK_LIMIT, Profile}
+use Rattle.s66_model.specs.{Problem, total_of, IsBound, IsLegal}
+use Rattle.s66_command.specs.{Strategy}
+use Rattle.s66_line.specs.{instrs_of, Block}
+use Rattle.s66_cert.specs.{IsDocument}
 use Rattle.s66_checker.specs.Verdict as checker
+use Rattle.s66_checker.specs.{Yes}
 use Rattle.s66_checker.proofs.GrantedClaims.{claim-bound, verdict-claims}
-use Rattle.s66_checker.specs.declared.verdict.Verdict.TheVariants.{Yes}
-use Rattle.s66_command.specs.declared.strategy.Strategy.{Strategy}
-use Rattle.s66_answer.specs.Answers.{Answer, IsAnswer, IsEnough, document_under, problem_of}
-use Rattle.s66_answer.specs.ProvedAnswers.{IsSpelledBlock}
+use Rattle.s66_answer.specs.{Answer, IsAnswer, IsEnough, document_under, problem_of, IsSpelledBlock}
 use Rattle.s66_answer.proofs.AnswerDocuments.{search-document}
 use Rattle.s66_answer.proofs.AnswerVerdicts.{same-problem, verdict-of_search}
 

@@ -1,27 +1,14 @@
 -- What facts show is an answer to the block.
-use Rattle.std.proofs.Common.{◌*◌, ◌≡◌, ◌≤◌, ◌∙◌, List, true, ap, arith, inr, refl, subst, sym}
-use Rattle.std.specs.Option.{is_some}
-use Rattle.s66_isa.specs.declared.limits.TheConstants.{BLOCK_LIMIT}
-use Rattle.s66_isa.specs.declared.instr.Instr.{Instr}
-use Rattle.s66_isa.specs.declared.profile.Profile.{Profile}
-use Rattle.s66_isa.specs.Table.{numbers}
-use Rattle.s66_line.specs.Blocks.{instrs_of, Block}
-use Rattle.s66_model.specs.Answer.{source_time}
-use Rattle.s66_model.specs.LegalOrder.{IsLegal}
-use Rattle.s66_model.specs.Timing.{Problem, total_of}
-use Rattle.s66_model.specs.Trees.{splits}
+use Rattle.std.proofs.Common.{◌*◌, ◌≡◌, ◌≤◌, ◌∙◌, List, true, ap, arith, inr, refl, subst, sym, is_some}
+use Rattle.s66_isa.specs.{BLOCK_LIMIT, Instr, Profile, numbers}
+use Rattle.s66_model.specs.{source_time, IsLegal, Problem, total_of, splits}
+use Rattle.s66_command.specs.{Strategy}
+use Rattle.s66_line.specs.{instrs_of, Block}
 use Rattle.s66_time.specs.TimedOrder.{TimedOrder}
-use Rattle.s66_deep.specs.Orders.{IsGood}
-use Rattle.s66_cert.specs.Documents.{Document, IsDocument}
-use Rattle.s66_cert.specs.DocumentParts.{Parts, document_of}
-use Rattle.s66_cert.specs.Evidence.{EvidenceOf}
-use Rattle.s66_checker.specs.Verdict.{verdict}
-use Rattle.s66_checker.specs.declared.verdict.Verdict.TheVariants.{Yes}
-use Rattle.s66_command.specs.declared.strategy.Strategy.{Strategy}
-use Rattle.s66_answer.specs.declared.answers.ByFacts.{ByFacts}
-use Rattle.s66_answer.specs.declared.answers.Candidate.{Candidate}
-use Rattle.s66_answer.specs.Answers.{IsEnough, document_under, problem_of}
-use Rattle.s66_answer.specs.Stored.{IsClaimed, IsShownBy, claimed, claimed_by, parts_by, tree_splits}
+use Rattle.s66_cert.specs.{Document, IsDocument, Parts, document_of, EvidenceOf}
+use Rattle.s66_checker.specs.{verdict, Yes}
+use Rattle.s66_deep.specs.{IsGood}
+use Rattle.s66_answer.specs.{ByFacts, Candidate, IsEnough, document_under, problem_of, IsClaimed, IsShownBy, claimed, claimed_by, parts_by, tree_splits}
 
 -- a candidate is a legal order with its total, no slower than the source order, which it is if it is as slow
 pub record IsCandidate (p : Profile) (block : Block) (c : Candidate) : Type 0 where

@@ -1,17 +1,12 @@
 -- The document of an order that fact lines show is a document, whose tree its lines determine.
 use Rattle.std.proofs.Common.{ℕ, ◌≤◌, List, length, arith}
-use Rattle.s66_isa.specs.declared.limits.TheConstants.{BLOCK_LIMIT, PROFILE_LIMIT}
-use Rattle.s66_isa.specs.declared.profile.Profile.{Profile}
-use Rattle.s66_isa.specs.Table.{entries}
+use Rattle.s66_isa.specs.{BLOCK_LIMIT, PROFILE_LIMIT, Profile, entries}
 use Rattle.s66_isa.proofs.Profiles.{entries-in-range}
-use Rattle.s66_line.specs.Blocks.{instrs_of, Block}
-use Rattle.s66_model.specs.LegalOrder.{IsLegal}
-use Rattle.s66_cert.specs.declared.limits.TheConstants.{TIME_LIMIT}
-use Rattle.s66_cert.specs.DocumentParts.{AreWhole}
-use Rattle.s66_cert.specs.Evidence.{EvidenceOf, IsEvidence}
-use Rattle.s66_answer.specs.ProvedAnswers.{IsSpelled}
+use Rattle.s66_model.specs.{IsLegal}
+use Rattle.s66_line.specs.{instrs_of, Block}
+use Rattle.s66_cert.specs.{TIME_LIMIT, AreWhole, EvidenceOf, IsEvidence}
+use Rattle.s66_answer.specs.{IsSpelled, parts_by}
 use Rattle.s66_answer.proofs.AnswerDocuments.{all-in, length-texts, order-numbers, texts-instructions}
-use Rattle.s66_answer.specs.Stored.{parts_by}
 
 pub shown-whole : (p : Profile) (block : Block) (order : List ℕ) (time : ℕ) (e : EvidenceOf) → IsLegal (instrs_of block) order → time ≤ TIME_LIMIT → IsEvidence e → 1 ≤ length (instrs_of block) → length (instrs_of block) ≤ BLOCK_LIMIT → IsSpelled block →
     AreWhole (parts_by p block order time e)

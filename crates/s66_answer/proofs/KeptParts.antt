@@ -1,17 +1,12 @@
 -- What is kept of each block is kept of all, and makes the whole.
-use Rattle.std.proofs.Common.{ℕ, suc, ◌+◌, ◌≡◌, ◌≤◌, ◌<◌, ◌∙◌, Bool, List, [], ◌∷◌, ◌++◌, Ok, Option, append_assoc, arith, drop, length, refl, sym, subst, ap, ap₂, slice_index_or}
-use Rattle.std.proofs.lemmas.List.{append-nil, at_drop_all, drop_more}
-use Rattle.s66_isa.specs.declared.profile.Profile.{Profile}
-use Rattle.s66_line.specs.Blocks.{Block}
-use Rattle.s66_source.specs.LeftAlone.{Reading}
-use Rattle.s66_source.specs.Source.{source_of}
-use Rattle.s66_command.specs.declared.strategy.Strategy.{Strategy}
-use Rattle.s66_answer.specs.Answers.{Answer, AreAnswers}
-use Rattle.s66_answer.specs.declared.outcome.Status.{Status}
-use Rattle.s66_answer.specs.OfAnswers.{IsOfAnswers, all_parts, bounded_if, status_by, status_of}
-use Rattle.s66_answer.specs.Shown.{before, shown}
-use Rattle.s66_answer.specs.Kept.{AreAnswered, AreKept, IsKept, IsKeptAt, bounded_in, parts_in}
-use Rattle.s66_answer.specs.declared.kept.KeptBlock.{KeptBlock}
+use Rattle.std.proofs.Common.{ℕ, suc, ◌+◌, ◌≡◌, ◌≤◌, ◌<◌, ◌∙◌, Bool, List, [], ◌∷◌, ◌++◌, Ok, Option, append_assoc, arith, drop, length, refl, sym, subst, ap, ap₂, slice_index_or, append-nil}
+use Rattle.std.proofs.lemmas.List.{at_drop_all, drop_more}
+use Rattle.s66_isa.specs.{Profile}
+use Rattle.s66_command.specs.{Strategy}
+use Rattle.s66_line.specs.{Block}
+use Rattle.s66_source.specs.{Reading, source_of}
+use Rattle.s66_answer.specs.{Answer, AreAnswers, Status, IsOfAnswers, all_parts, bounded_if, status_by, status_of, before, shown, AreAnswered, AreKept, IsKept, IsKeptAt, bounded_in, parts_in}
+use Rattle.s66_answer.specs.{KeptBlock}
 
 length-answers : (strategy : Strategy) (p : Profile) (blocks : List Block) (answers : List Answer) → AreAnswers strategy p blocks answers → length blocks ≡ length answers
 length-answers strategy p [] [] are = refl

@@ -1,9 +1,8 @@
 -- What workers made is put in the places of its numbers, and taken out of these in order (`make_each`).
-use Rattle.std.proofs.Common.{ℕ, ◌≡◌, ◌<◌, List, [], ◌∷◌, ◌++◌, Option, None, All, IfSome, arith, inl, inr, get_or, length, set, subst, sym}
+use Rattle.std.proofs.Common.{ℕ, ◌≡◌, ◌<◌, List, [], ◌∷◌, ◌++◌, Option, None, All, IfSome, arith, inl, inr, get_or, length, set, subst, sym, get_or-set_same, get_or-set_other, length-set}
 use Rattle.std.proofs.lemmas.Bool.{cases_eq}
 use Rattle.std.proofs.lemmas.Grind.{common_steps}
-use Rattle.std.proofs.lemmas.List.{get_or-set_same, get_or-set_other, length-set}
-use Rattle.s66_answer.specs.Turns.{AreMade, ArePut}
+use Rattle.s66_answer.specs.{AreMade, ArePut}
 
 module _ {T : Type 0} (gives : ℕ → T → Type 0) where
   pub none-put : (places : List (Option T)) → All (λ p. p ≡ None) places → ArePut gives places

@@ -1,15 +1,12 @@
 -- What a search returns is an answer to the block.
-use Rattle.std.proofs.Common.{ℕ, ◌≡◌, ◌*◌, ◌≤◌, ◌∙◌, true, subst, sym}
-use Rattle.std.proofs.lemmas.Bool.{true≢false}
-use Rattle.s66_isa.specs.declared.profile.Profile.{Profile}
-use Rattle.s66_line.specs.Blocks.{Block}
+use Rattle.std.proofs.Common.{ℕ, ◌≡◌, ◌*◌, ◌≤◌, ◌∙◌, true, subst, sym, true≢false}
+use Rattle.s66_isa.specs.{Profile}
 use Rattle.s66_model.specs.Answer as search
-use Rattle.s66_model.specs.Timing.{Problem}
-use Rattle.s66_model.specs.declared.rule.Rule.{Rule}
-use Rattle.s66_ledger.specs.Answers.{AnswerOf, answer_of}
-use Rattle.s66_command.specs.declared.strategy.Strategy.{Strategy}
-use Rattle.s66_answer.specs.Answers.{problem_of}
-use Rattle.s66_answer.specs.Stored.{AreBeside, IsFound}
+use Rattle.s66_model.specs.{Problem, Rule}
+use Rattle.s66_command.specs.{Strategy}
+use Rattle.s66_line.specs.{Block}
+use Rattle.s66_ledger.specs.{AnswerOf, answer_of}
+use Rattle.s66_answer.specs.{problem_of, AreBeside, IsFound}
 
 pub search-answers : (strategy : Strategy) (p : Profile) (block : Block) (found : AnswerOf) → IsFound strategy p block found → search.IsAnswer found.rule found.problem found.budget (answer_of found) →
     search.IsAnswer strategy.search.rule (problem_of p block) strategy.search.nodes (answer_of found)

@@ -1,24 +1,13 @@
 -- To be believed: what is answered for a block: what a search of its orders finds, or with `--deep` what is shown by facts that all orders below a bound have in common.
-use Rattle.std.specs.Prelude.{ℕ, ◌+◌, ◌*◌, ◌≡◌, ◌≤◌, ◌⊎◌, if◌then◌else◌, false, true, List, [], ◌∷◌, map, Option, None, Some}
-use Rattle.std.specs.Option.{is_some}
-use Rattle.s66_isa.specs.declared.limits.TheConstants.{BLOCK_LIMIT}
-use Rattle.s66_isa.specs.declared.profile.Profile.{Profile}
-use Rattle.s66_isa.specs.Table.{entries, numbers}
-use Rattle.s66_line.specs.Blocks.{instrs_of, text_of, Block}
-use Rattle.s66_model.specs.declared.options.Options.{Options}
-use Rattle.s66_model.specs.declared.rule.Rule.{Rule}
-use Rattle.s66_model.specs.declared.rule.Rule.TheVariants.{NoneNamed, ClampedStanding}
+use Rattle.std.specs.Prelude.{ℕ, ◌+◌, ◌*◌, ◌≡◌, ◌≤◌, ◌⊎◌, if◌then◌else◌, false, true, List, [], ◌∷◌, map, Option, None, Some, is_some}
+use Rattle.s66_isa.specs.{BLOCK_LIMIT, Profile, entries, numbers}
+use Rattle.s66_model.specs.{Options, Rule, NoneNamed, ClampedStanding, source_time, Ending, IsLegal, Problem, total_of, Tree, splits}
 use Rattle.s66_model.specs.Answer as search
-use Rattle.s66_model.specs.Answer.{source_time}
-use Rattle.s66_model.specs.DominatedLeaves.{Ending}
-use Rattle.s66_model.specs.LegalOrder.{IsLegal}
-use Rattle.s66_model.specs.Timing.{Problem, total_of}
-use Rattle.s66_model.specs.Trees.{Tree, splits}
-use Rattle.s66_moments.specs.declared.fact_line.FactStep.{FactStep}
-use Rattle.s66_cert.specs.Documents.{Document, IsDocument, has_dominated}
-use Rattle.s66_checker.specs.declared.verdict.Verdict.TheVariants.{Yes}
-use Rattle.s66_checker.specs.Verdict.{verdict}
-use Rattle.s66_command.specs.declared.strategy.Strategy.{Strategy}
+use Rattle.s66_command.specs.{Strategy}
+use Rattle.s66_moments.specs.{FactStep}
+use Rattle.s66_line.specs.{instrs_of, text_of, Block}
+use Rattle.s66_cert.specs.{Document, IsDocument, has_dominated}
+use Rattle.s66_checker.specs.{Yes, verdict}
 
 -- an order, what it takes, what every order takes at least, how often orders were split to find that, in all searches, and what shows
 -- the bound: fact lines, if there are any, and a tree

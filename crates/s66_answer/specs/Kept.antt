@@ -1,10 +1,9 @@
 -- Used by contracts: what is kept of answers to blocks, a part of each, one after the other.
 use Rattle.std.specs.Prelude.{ℕ, ◌+◌, ◌≡◌, ◌==◌, Bool, List, [], ◌∷◌, ◌++◌, Option, slice_index_or}
-use Rattle.s66_isa.specs.declared.profile.Profile.{Profile}
-use Rattle.s66_isa.specs.Lists.{weigh}
-use Rattle.s66_line.specs.Blocks.{Block}
-use Rattle.s66_source.specs.LeftAlone.{Reading}
-use Rattle.s66_command.specs.declared.strategy.Strategy.{Strategy}
+use Rattle.s66_isa.specs.{Profile, weigh}
+use Rattle.s66_command.specs.{Strategy}
+use Rattle.s66_line.specs.{Block}
+use Rattle.s66_source.specs.{Reading}
 use Rattle.s66_answer.specs.Answers.{Answer, AreAnswers, IsAnswer}
 use Rattle.s66_answer.specs.declared.outcome.Status.{Status}
 use Rattle.s66_answer.specs.OfAnswers.{IsOfAnswers, all_parts, bounded_if, count_bounded}

@@ -1,11 +1,9 @@
 -- To be believed: what is made of answers to the blocks of a source that are shown, and how it ends.
 use Rattle.std.specs.Prelude.{ℕ, ◌+◌, ◌≡◌, ◌==◌, if◌then◌else◌, Bool, true, false, List, [], ◌∷◌, ◌++◌, Ok, Option, length}
-use Rattle.s66_isa.specs.Lists.{weigh}
-use Rattle.s66_isa.specs.declared.profile.Profile.{Profile}
-use Rattle.s66_line.specs.Blocks.{Block}
-use Rattle.s66_source.specs.LeftAlone.{Reading}
-use Rattle.s66_source.specs.Source.{source_of}
-use Rattle.s66_command.specs.declared.strategy.Strategy.{Strategy}
+use Rattle.s66_isa.specs.{weigh, Profile}
+use Rattle.s66_command.specs.{Strategy}
+use Rattle.s66_line.specs.{Block}
+use Rattle.s66_source.specs.{Reading, source_of}
 use Rattle.s66_answer.specs.Answers.{Answer, AreAnswers}
 use Rattle.s66_answer.specs.declared.outcome.Status.{Status}
 use Rattle.s66_answer.specs.declared.outcome.Status.TheVariants.{Done, Bounded}

@@ -1,9 +1,7 @@
 -- Used by contracts: blocks whose texts spell their instructions.
 use Rattle.std.specs.Prelude.{ℕ, ◌≤◌, length}
-use Rattle.s66_isa.specs.Table.{instr_at}
-use Rattle.s66_isa.specs.declared.limits.TheConstants.{BLOCK_LIMIT}
-use Rattle.s66_line.specs.Blocks.{instrs_of, text_of, Block}
-use Rattle.s66_line.specs.InstructionText.{IsTextOf}
+use Rattle.s66_isa.specs.{instr_at, BLOCK_LIMIT}
+use Rattle.s66_line.specs.{instrs_of, text_of, Block, IsTextOf}
 
 -- the text of each of the first instructions, this many, is one of it
 abbrev pub IsSpelledTo : Block → ℕ → Type 0

@@ -1,6 +1,6 @@
 -- To be believed: which blocks of a source are printed.
 use Rattle.std.specs.Prelude.{ℕ, ◌-◌, List, Option, None, Some, drop, take}
-use Rattle.s66_line.specs.Blocks.{Block}
+use Rattle.s66_line.specs.{Block}
 
 -- all, or the one of this number, from 1, if there is one
 abbrev pub shown : Option ℕ → List Block → List Block

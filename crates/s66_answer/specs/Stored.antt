@@ -1,20 +1,12 @@
 -- Used by contracts: an answer as code stores it: that of a search with the splits of those beside it, or an order with its document.
 use Rattle.std.specs.Prelude.{ℕ, ◌*◌, ◌≡◌, ◌≤◌, ◌⊎◌, false, List, Some}
-use Rattle.s66_isa.specs.declared.limits.TheConstants.{BLOCK_LIMIT}
-use Rattle.s66_isa.specs.Table.{entries}
-use Rattle.s66_isa.specs.declared.profile.Profile.{Profile}
-use Rattle.s66_line.specs.Blocks.{instrs_of, Block}
-use Rattle.s66_model.specs.declared.rule.Rule.TheVariants.{ClampedStanding}
-use Rattle.s66_model.specs.Answer.{source_time}
-use Rattle.s66_model.specs.Trees.{splits}
-use Rattle.s66_ledger.specs.Answers.{AnswerOf, answer_of}
-use Rattle.s66_ledger.specs.Ledgers.{LedgerOf}
-use Rattle.s66_cert.specs.Documents.{IsDocument}
-use Rattle.s66_cert.specs.DocumentParts.{Parts, document_of, tree_of_lines}
-use Rattle.s66_cert.specs.Evidence.{EvidenceOf}
-use Rattle.s66_checker.specs.declared.verdict.Verdict.TheVariants.{Yes}
-use Rattle.s66_checker.specs.Verdict.{verdict}
-use Rattle.s66_command.specs.declared.strategy.Strategy.{Strategy}
+use Rattle.s66_isa.specs.{BLOCK_LIMIT, entries, Profile}
+use Rattle.s66_model.specs.{ClampedStanding, source_time, splits}
+use Rattle.s66_command.specs.{Strategy}
+use Rattle.s66_line.specs.{instrs_of, Block}
+use Rattle.s66_cert.specs.{IsDocument, Parts, document_of, tree_of_lines, EvidenceOf}
+use Rattle.s66_ledger.specs.{AnswerOf, answer_of, LedgerOf}
+use Rattle.s66_checker.specs.{Yes, verdict}
 use Rattle.s66_answer.specs.declared.answers.Found.{Found}
 use Rattle.s66_answer.specs.declared.answers.Found.TheVariants.{Searched, Shown}
 use Rattle.s66_answer.specs.declared.answers.ByFacts.{ByFacts}

@@ -1,7 +1,7 @@
 //! What is kept of the answers to all blocks of a source that are shown (`keep_answers`), and how the command ends by that.
 
 ghost use Rattle.std.specs.Prelude.{IfOk};
-ghost use Rattle.s66_answer.specs.Kept.{AreAnswered};
+ghost use Rattle.s66_answer.specs.{AreAnswered};
 
 use crate::kept::{Keep, Searches, keep_each};
 use crate::observer::Observer;

@@ -6,16 +6,14 @@
 //! search that made all its splits only the tree is kept meanwhile, and a faster order is put in its answer.
 
 ghost use Rattle.std.specs.Prelude.{◌≡◌, ◌≤◌, ◌+◌, ◌/◌, true, IfOk, IfSome};
-ghost use Rattle.s66_line.specs.Blocks.{instrs_of, Block as BlockOf};
-ghost use Rattle.s66_isa.specs.declared.profile.Profile.{Profile as ProfileOf};
-ghost use Rattle.s66_cert.specs.declared.limits.TheConstants.{TIME_LIMIT};
-ghost use Rattle.s66_command.specs.declared.strategy.Strategy.{Strategy as StrategyOf};
-ghost use Rattle.s66_deep.specs.Orders.{IsGood, IsLooked};
-ghost use Rattle.s66_model.specs.Answer.{source_time};
-ghost use Rattle.s66_model.specs.Timing.{total_of};
-ghost use Rattle.s66_ledger.specs.Answers.{answer_of};
-ghost use Rattle.s66_answer.specs.Answers.{problem_of};
-ghost use Rattle.s66_answer.specs.Stored.{AreBeside, IsFor, IsFound, IsSearchOf, IsShownBy, IsWorth, tree_splits};
+ghost use Rattle.s66_isa.specs.{Profile as ProfileOf};
+ghost use Rattle.s66_model.specs.{source_time, total_of};
+ghost use Rattle.s66_command.specs.{Strategy as StrategyOf};
+ghost use Rattle.s66_line.specs.{instrs_of, Block as BlockOf};
+ghost use Rattle.s66_cert.specs.{TIME_LIMIT};
+ghost use Rattle.s66_ledger.specs.{answer_of};
+ghost use Rattle.s66_deep.specs.{IsGood, IsLooked};
+ghost use Rattle.s66_answer.specs.{problem_of, AreBeside, IsFor, IsFound, IsSearchOf, IsShownBy, IsWorth, tree_splits};
 
 use crate::documents::{document_by, document_of, is_accepted};
 use s66_cert::{Document, Evidence, Tree};
@@ -71,15 +69,13 @@ pub enum Found {
 
 impl Found {
     ghost use Rattle.std.specs.Prelude.{◌≡◌, ◌==◌, IfOk};
-    ghost use Rattle.s66_isa.specs.declared.profile.Profile.{Profile as ProfileOf};
-    ghost use Rattle.s66_line.specs.Blocks.{instrs_of, Block as BlockOf};
-    ghost use Rattle.s66_model.specs.Answer.{source_time};
-    ghost use Rattle.s66_cert.specs.DocumentParts.{document_of};
-    ghost use Rattle.s66_checker.specs.Verdict.{verdict};
-    ghost use Rattle.s66_checker.specs.declared.verdict.Verdict.TheVariants.{Yes};
-    ghost use Rattle.s66_command.specs.declared.strategy.Strategy.{Strategy as StrategyOf};
-    ghost use Rattle.s66_answer.specs.Answers.{IsAnswer, document_under, problem_of};
-    ghost use Rattle.s66_answer.specs.Stored.{IsFor, answer_in};
+    ghost use Rattle.s66_isa.specs.{Profile as ProfileOf};
+    ghost use Rattle.s66_line.specs.{instrs_of, Block as BlockOf};
+    ghost use Rattle.s66_model.specs.{source_time};
+    ghost use Rattle.s66_cert.specs.{document_of};
+    ghost use Rattle.s66_checker.specs.{verdict, Yes};
+    ghost use Rattle.s66_command.specs.{Strategy as StrategyOf};
+    ghost use Rattle.s66_answer.specs.{IsAnswer, document_under, problem_of, IsFor, answer_in};
 
     /// The order.
     pub fn order(&self) -> &Order

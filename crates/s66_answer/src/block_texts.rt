@@ -1,8 +1,7 @@
 //! The instructions of a block with their texts, as a document has them.
 
 ghost use Rattle.std.specs.Prelude.{◌≡◌, IfOk};
-ghost use Rattle.s66_answer.specs.Answers.{texts_of};
-ghost use Rattle.s66_answer.specs.ProvedAnswers.{IsSpelled};
+ghost use Rattle.s66_answer.specs.{texts_of, IsSpelled};
 
 use s66_cert::InstructionText;
 use s66_line::Block;

@@ -2,16 +2,12 @@
 //! the checker accepts it.
 
 ghost use Rattle.std.specs.Prelude.{◌≡◌, ◌≤◌, if◌then◌else◌, IfOk, IsTrue};
-ghost use Rattle.s66_cert.specs.declared.limits.TheConstants.{TIME_LIMIT};
-ghost use Rattle.s66_line.specs.Blocks.{instrs_of};
-ghost use Rattle.s66_ledger.specs.Answers.{answer_of};
-ghost use Rattle.s66_model.specs.declared.rule.Rule.TheVariants.{NoneNamed};
-ghost use Rattle.s66_model.specs.Lines.{has_dominated_line};
-ghost use Rattle.s66_cert.specs.DocumentParts.{document_of};
-ghost use Rattle.s66_checker.specs.Verdict.{verdict};
-ghost use Rattle.s66_checker.specs.declared.verdict.Verdict.TheVariants.{Yes};
-ghost use Rattle.s66_answer.specs.Answers.{document_under, searched};
-ghost use Rattle.s66_answer.specs.Stored.{IsAccepted, parts_by};
+ghost use Rattle.s66_model.specs.{NoneNamed, has_dominated_line};
+ghost use Rattle.s66_line.specs.{instrs_of};
+ghost use Rattle.s66_cert.specs.{TIME_LIMIT, document_of};
+ghost use Rattle.s66_ledger.specs.{answer_of};
+ghost use Rattle.s66_checker.specs.{verdict, Yes};
+ghost use Rattle.s66_answer.specs.{document_under, searched, IsAccepted, parts_by};
 
 use crate::block_texts::texts_of;
 use arrayvec::ArrayVec;

@@ -2,9 +2,9 @@
 //! by side, each by one thread.
 
 ghost use Rattle.std.specs.Prelude.{◌≡◌, ◌≤◌, ◌<◌, ◌^◌, ◌+◌, ◌++◌, ℕ, List, true, IfOk, OnOk, length};
-ghost use Rattle.s66_isa.specs.declared.profile.Profile.{Profile as ProfileOf};
-ghost use Rattle.s66_line.specs.Blocks.{Block as BlockOf};
-ghost use Rattle.s66_command.specs.declared.strategy.Strategy.{Strategy as StrategyOf};
+ghost use Rattle.s66_isa.specs.{Profile as ProfileOf};
+ghost use Rattle.s66_command.specs.{Strategy as StrategyOf};
+ghost use Rattle.s66_line.specs.{Block as BlockOf};
 ghost use Rattle.s66_answer.specs.Answers.{Answer as AnswerOf};
 ghost use Rattle.s66_answer.specs.Kept.{AreKept, IsKept, IsKeptAt, bounded_in, parts_in};
 ghost use Rattle.s66_answer.specs.OfAnswers.{bounded_if};

@@ -1,7 +1,7 @@
 //! How a command ended that wrote all its text (`Status`), and its text with that (`Output`).
 
 ghost use Rattle.std.specs.Prelude.{◌≡◌};
-ghost use Rattle.s66_answer.specs.OfAnswers.{status_by};
+ghost use Rattle.s66_answer.specs.{status_by};
 
 /// How a command that wrote all its text ended.
 #[derive(Clone, Copy, Debug, PartialEq, Eq)]
@@ -24,7 +24,7 @@ pub struct Output {
 
 impl Status {
     ghost use Rattle.std.specs.Prelude.{◌≡◌};
-    ghost use Rattle.s66_answer.specs.StatusCode.{status_code};
+    ghost use Rattle.s66_answer.specs.{status_code};
 
     /// The status of the process.
     pub fn code(&self) -> u8

@@ -1,7 +1,7 @@
 //! Which blocks of a source are shown: all, or the one of `--block`.
 
 ghost use Rattle.std.specs.Prelude.{◌≡◌, ◌<◌, ◌^◌, drop, take};
-ghost use Rattle.s66_answer.specs.Shown.{before, shown};
+ghost use Rattle.s66_answer.specs.{before, shown};
 
 use s66_line::Block;
 

@@ -1,8 +1,8 @@
 //! Pieces of work that workers take in turn, each in a thread of its own, and whose results are put in order (`make_each`).
 
 ghost use Rattle.std.specs.Prelude.{◌≡◌, ℕ, ◌<◌, All, IfOk, IfSome, None, length};
-ghost use Rattle.s66_answer.specs.Turns.{AreMade, ArePut};
 ghost use denote.Param.Send.{IsSync, IsSend};
+ghost use Rattle.s66_answer.specs.Turns.{AreMade, ArePut};
 
 use crate::observer::{Observer, Silent};
 use crate::share::{Made, make_share};

@@ -1,14 +1,9 @@
 use Rattle.std.proofs.Common.{◌≡◌, ◌*◌, ◌≤◌, ◌∙◌, IfSome, ap, arith, inl, subst, sym}
-use Rattle.s66_line.specs.Blocks.{instrs_of}
+use Rattle.s66_model.specs.{IsLegal, Problem, total_of, splits}
+use Rattle.s66_line.specs.{instrs_of}
 use Rattle.s66_time.specs.Ordered.{Ordered}
-use Rattle.s66_model.specs.LegalOrder.{IsLegal}
-use Rattle.s66_model.specs.Timing.{Problem, total_of}
-use Rattle.s66_model.specs.Trees.{splits}
-use Rattle.s66_cert.specs.DocumentParts.{Parts, tree_of_lines}
-use Rattle.s66_cert.specs.Evidence.{EvidenceOf}
-use Rattle.s66_answer.specs.declared.answers.Candidate.{Candidate}
-use Rattle.s66_answer.specs.Answers.{IsEnough, problem_of}
-use Rattle.s66_answer.specs.Stored.{IsShownBy, claimed, tree_splits}
+use Rattle.s66_cert.specs.{Parts, tree_of_lines, EvidenceOf}
+use Rattle.s66_answer.specs.{Candidate, IsEnough, problem_of, IsShownBy, claimed, tree_splits}
 use Rattle.s66_answer.proofs.SearchAnswers.{beside-deep}
 use Rattle.s66_answer.proofs.FactAnswers.{IsCandidate, as-good, as-long, shown-claimed}
 use Rattle.s66_answer.proofs.answers.answer_by.Goals as goal

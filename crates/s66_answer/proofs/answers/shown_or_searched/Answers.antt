@@ -1,19 +1,13 @@
 use Rattle.std.proofs.Common.{◌≡◌, ◌≤◌, ◌∙◌, IfSome, ap, arith, inl, inr, length, subst, sym}
-use Rattle.s66_isa.specs.declared.limits.TheConstants.{BLOCK_LIMIT}
-use Rattle.s66_line.specs.Blocks.{instrs_of}
-use Rattle.s66_time.specs.Ordered.{Ordered}
-use Rattle.s66_model.specs.Answer.{source_time}
-use Rattle.s66_model.specs.LegalOrder.{IsLegal}
-use Rattle.s66_model.specs.Timing.{Problem, total_of}
+use Rattle.s66_isa.specs.{BLOCK_LIMIT}
+use Rattle.s66_model.specs.{source_time, IsLegal, Problem, total_of, splits}
 use Rattle.s66_model.proofs.Growth.{total-le}
 use Rattle.s66_model.proofs.LegalOrders.{legal-order}
-use Rattle.s66_ledger.specs.Answers.{answer_of}
-use Rattle.s66_cert.specs.DocumentParts.{Parts}
-use Rattle.s66_answer.specs.declared.answers.Candidate.{Candidate}
-use Rattle.s66_model.specs.Trees.{splits}
-use Rattle.s66_cert.specs.DocumentParts.{tree_of_lines}
-use Rattle.s66_answer.specs.Answers.{IsEnough, problem_of}
-use Rattle.s66_answer.specs.Stored.{IsShownBy, claimed}
+use Rattle.s66_line.specs.{instrs_of}
+use Rattle.s66_time.specs.Ordered.{Ordered}
+use Rattle.s66_cert.specs.{Parts, tree_of_lines}
+use Rattle.s66_ledger.specs.{answer_of}
+use Rattle.s66_answer.specs.{Candidate, IsEnough, problem_of, IsShownBy, claimed}
 use Rattle.s66_answer.proofs.SearchAnswers.{search-answers}
 use Rattle.s66_answer.proofs.FactAnswers.{IsCandidate, shown-claimed}
 use Rattle.s66_answer.proofs.answers.shown_or_searched.Goals as goal

@@ -1,7 +1,6 @@
 use Rattle.std.proofs.Common.{◌+◌, ◌∙◌, arith, subst}
-use Rattle.s66_isa.specs.Table.{instr_at}
-use Rattle.s66_line.specs.Blocks.{instrs_of, text_of}
-use Rattle.s66_line.specs.InstructionText.{IsTextOf}
+use Rattle.s66_isa.specs.{instr_at}
+use Rattle.s66_line.specs.{instrs_of, text_of, IsTextOf}
 use Rattle.s66_answer.proofs.BlockTexts.{spelled-more, texts-more}
 use Rattle.s66_answer.proofs.block_texts.texts_of.Goals as goal
 

@@ -1,8 +1,7 @@
 use Rattle.std.proofs.Common.{◌≡◌, ◌++◌, ◌+◌, ◌-◌, length, map}
-use Rattle.s66_isa.specs.Lists.{rising}
-use Rattle.s66_line.specs.Blocks.{instrs_of, text_of}
-use Rattle.s66_answer.specs.ProvedAnswers.{IsSpelledTo}
-use Rattle.s66_answer.specs.Answers.{texts_of}
+use Rattle.s66_isa.specs.{rising}
+use Rattle.s66_line.specs.{instrs_of, text_of}
+use Rattle.s66_answer.specs.{IsSpelledTo, texts_of}
 use Rattle.s66_answer.proofs.block_texts.texts_of.Given as goal
 
 abbrev pub invariant-loop-position : goal.invariant-loop-position

@@ -1,9 +1,8 @@
 use Rattle.std.proofs.Common.{Some, ◌≡◌, ◌∙◌, List, ap, arith, refl, rules, subst, sym}
-use Rattle.s66_isa.specs.declared.instr.Instr.{Instr}
-use Rattle.s66_model.specs.LegalOrder.{IsLegal}
-use Rattle.s66_model.specs.declared.rule.Rule.TheVariants.{ClampedStanding}
-use Rattle.s66_cert.specs.DocumentParts.{Parts, AreWhole}
-use Rattle.s66_answer.specs.Stored.{parts_by}
+use Rattle.s66_isa.specs.{Instr}
+use Rattle.s66_model.specs.{IsLegal, ClampedStanding}
+use Rattle.s66_cert.specs.{Parts, AreWhole}
+use Rattle.s66_answer.specs.{parts_by}
 use Rattle.s66_answer.proofs.AnswerDocuments.{same-parts}
 use Rattle.s66_answer.proofs.FactDocuments.{shown-whole}
 use Rattle.s66_answer.proofs.documents.document_by.Goals as goal

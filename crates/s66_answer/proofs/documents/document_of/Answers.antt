@@ -1,20 +1,15 @@
 use Rattle.std.proofs.Common.{None, refl, ◌≡◌, ◌∙◌, if◌then◌else◌, ap, ap₂, sym, subst, arith, rules}
+use Rattle.s66_model.specs.{NoneNamed, Problem, has_dominated_line, IsAnswer}
+use Rattle.s66_line.specs.{instrs_of}
 use Rattle.s66_time.specs.Ordered.{Ordered}
-use Rattle.s66_line.specs.Blocks.{instrs_of}
-use Rattle.s66_model.specs.declared.rule.Rule.TheVariants.{NoneNamed}
-use Rattle.s66_model.specs.Timing.{Problem}
-use Rattle.s66_ledger.specs.Answers.{answer_of}
-use Rattle.s66_model.specs.Lines.{has_dominated_line}
-use Rattle.s66_cert.specs.Documents.{Document}
-use Rattle.s66_cert.specs.DocumentParts.{Parts, AreWhole, document_of}
-use Rattle.s66_model.specs.Answer.{IsAnswer}
-use Rattle.s66_checker.specs.declared.verdict.Verdict.TheVariants.{Yes}
-use Rattle.s66_checker.specs.Verdict.{verdict}
-use Rattle.s66_answer.specs.Answers.{document_under, searched}
+use Rattle.s66_cert.specs.{Document, Parts, AreWhole, document_of}
+use Rattle.s66_ledger.specs.{answer_of}
+use Rattle.s66_checker.specs.{Yes, verdict}
+use Rattle.s66_answer.specs.{document_under, searched}
 use Rattle.s66_answer.proofs.AnswerVerdicts.{verdict-of_search}
 use Rattle.s66_answer.proofs.AnswerDocuments.{parts_under, parts-document, parts-whole, same-parts}
-use Rattle.s66_answer.proofs.documents.document_of.Goals as goal
 use Rattle.s66_answer.proofs.documents.document_of.Goals.{After-bound, After-new}
+use Rattle.s66_answer.proofs.documents.document_of.Goals as goal
 
 -- what the claim says, and the answer's own parts
 abbrev claimed : After-bound → Parts

@@ -1,7 +1,7 @@
 use Rattle.std.proofs.Common.{◌∙◌, ap₂, sym}
-use Rattle.s66_isa.specs.declared.limits.TheConstants.{BLOCK_LIMIT}
-use Rattle.s66_cert.specs.DocumentParts.{document_of}
-use Rattle.s66_checker.specs.declared.verdict.Verdict.TheVariants.{Yes}
+use Rattle.s66_isa.specs.{BLOCK_LIMIT}
+use Rattle.s66_cert.specs.{document_of}
+use Rattle.s66_checker.specs.{Yes}
 use Rattle.s66_checker.proofs.GrantedClaims.{verdict-claims}
 use Rattle.s66_answer.proofs.documents.is_accepted.Goals as goal
 

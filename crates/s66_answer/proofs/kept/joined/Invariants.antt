@@ -1,6 +1,6 @@
-use Rattle.std.proofs.Common.{◌≡◌, ◌≤◌, ◌+◌, ◌++◌, length}
 use Rattle.std.specs.Vec.Iter.{into_iter_items}
-use Rattle.s66_answer.specs.Kept.{bounded_in, parts_in}
+use Rattle.std.proofs.Common.{◌≡◌, ◌≤◌, ◌+◌, ◌++◌, length}
+use Rattle.s66_answer.specs.{bounded_in, parts_in}
 use Rattle.s66_answer.proofs.kept.joined.Given as goal
 
 abbrev pub invariant-loop-kept : goal.invariant-loop-kept

@@ -1,4 +1,4 @@
-use Rattle.s66_answer.specs.Stored.{answer_in}
+use Rattle.s66_answer.specs.{answer_in}
 use Rattle.s66_answer.proofs.kept.keep_found.Goals as goal
 
 pub returns : goal.returns

@@ -1,5 +1,5 @@
 use Rattle.std.proofs.Common.{subst, sym}
-use Rattle.s66_answer.specs.Kept.{AreKept, bounded_in}
+use Rattle.s66_answer.specs.{AreKept, bounded_in}
 use Rattle.s66_answer.proofs.KeptParts.{kept-each}
 use Rattle.s66_answer.proofs.kept.keep_side_by_side.Goals as goal
 

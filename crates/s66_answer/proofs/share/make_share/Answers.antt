@@ -1,7 +1,6 @@
-use Rattle.std.proofs.Common.{◌<◌, All, Bool, true, false, if◌then◌else◌, List, [], ◌∷◌, ◌++◌, subst, sym}
-use Rattle.std.specs.Result.{is_ok}
+use Rattle.std.proofs.Common.{◌<◌, All, Bool, true, false, if◌then◌else◌, List, [], ◌∷◌, ◌++◌, subst, sym, is_ok}
 use Rattle.std.proofs.lemmas.List.Elements.{All-nil, All-push}
-use Rattle.s66_answer.specs.declared.share.Made.{Made}
+use Rattle.s66_answer.specs.{Made}
 use Rattle.s66_answer.proofs.share.make_share.Goals as goal
 
 either : {X : Type 0} (P : X → Type 0) (t : Bool) (xs ys : List X) → All P xs → All P ys → All P (if t then xs else ys)

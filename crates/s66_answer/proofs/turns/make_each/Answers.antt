@@ -1,6 +1,5 @@
 use Rattle.std.proofs.Common.{◌≡◌, ◌<◌, ◌∙◌, All, Global, IfOk, Vec, ap, arith, length, subst, sym}
-use Rattle.s66_answer.specs.Turns.{ArePut}
-use Rattle.s66_answer.specs.declared.share.Made.{Made}
+use Rattle.s66_answer.specs.{ArePut, Made}
 use Rattle.s66_answer.proofs.Places.{none-put}
 use Rattle.s66_answer.proofs.turns.make_each.Goals as goal
 

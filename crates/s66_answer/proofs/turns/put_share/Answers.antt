@@ -1,7 +1,6 @@
-use Rattle.std.proofs.Common.{◌<◌, ◌∙◌, Some, arith, length, refl}
-use Rattle.std.proofs.lemmas.List.{length-set}
+use Rattle.std.proofs.Common.{◌<◌, ◌∙◌, Some, arith, length, refl, length-set}
 use Rattle.std.proofs.lemmas.List.Elements.{All-pop}
-use Rattle.s66_answer.specs.declared.share.Made.{Made}
+use Rattle.s66_answer.specs.{Made}
 use Rattle.s66_answer.proofs.Places.{put-more}
 use Rattle.s66_answer.proofs.turns.put_share.Goals as goal
 

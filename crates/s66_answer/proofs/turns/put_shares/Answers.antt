@@ -1,6 +1,6 @@
 use Rattle.std.proofs.Common.{◌<◌, ◌∙◌, All, Global, Some, Vec, arith, length, refl, subst, sym}
 use Rattle.std.proofs.lemmas.List.Elements.{All-pop}
-use Rattle.s66_answer.specs.declared.share.Made.{Made}
+use Rattle.s66_answer.specs.{Made}
 use Rattle.s66_answer.proofs.turns.put_shares.Goals as goal
 
 pub loop-share-init : goal.loop-share-init

@@ -1,5 +1,5 @@
 use Rattle.std.proofs.Common.{◌≡◌, ◌<◌, All, length, vec_len}
-use Rattle.s66_answer.specs.Turns.{ArePut}
+use Rattle.s66_answer.specs.{ArePut}
 use Rattle.s66_answer.proofs.turns.put_shares.Given as goal
 
 abbrev pub invariant-loop-share : goal.invariant-loop-share

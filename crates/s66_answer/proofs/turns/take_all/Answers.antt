@@ -1,6 +1,5 @@
-use Rattle.std.proofs.Common.{◌∙◌, ◌∷◌, [], IfSome, ap, arith, length, refl, subst, sym, length-append}
-use Rattle.std.proofs.lemmas.List.{length-set}
-use Rattle.s66_answer.specs.Turns.{AreMade}
+use Rattle.std.proofs.Common.{◌∙◌, ◌∷◌, [], IfSome, ap, arith, length, refl, subst, sym, length-append, length-set}
+use Rattle.s66_answer.specs.{AreMade}
 use Rattle.s66_answer.proofs.Places.{made-more, put-more}
 use Rattle.s66_answer.proofs.turns.take_all.Goals as goal
 

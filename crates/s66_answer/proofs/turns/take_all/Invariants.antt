@@ -1,5 +1,5 @@
 use Rattle.std.proofs.Common.{◌≡◌, length}
-use Rattle.s66_answer.specs.Turns.{AreMade, ArePut}
+use Rattle.s66_answer.specs.{AreMade, ArePut}
 use Rattle.s66_answer.proofs.turns.take_all.Given as goal
 
 abbrev pub invariant-loop-number : goal.invariant-loop-number
