@@ -1,13 +1,9 @@
 -- Calls of a reader that were counted, and one more (`read_all`).
-use Rattle.std.proofs.Common.{◌≡◌, ℕ, ◌+◌, ◌<◌, ◌≤◌, ◌∙◌, min, max, List, ◌++◌, Option, None, Some, Result, Ok, Err, IfErr, append_assoc, ap, sym, subst, arith}
 use Rattle.std.specs.Io.KnownBytes.{Consumes}
-use Rattle.std.specs.Result.{IsErr, IsErrAnd}
-use Rattle.s66_device.specs.Devices.{Feeds, Grows, Reader}
-use Rattle.s66_program.specs.declared.limits.TheConstants.{FEED_CALLS, FEED_ROOM}
+use Rattle.std.proofs.Common.{◌≡◌, ℕ, ◌+◌, ◌<◌, ◌≤◌, ◌∙◌, min, max, List, ◌++◌, Option, None, Some, Result, Ok, Err, IfErr, append_assoc, ap, sym, subst, arith, IsErr, IsErrAnd}
+use Rattle.s66_device.specs.{Feeds, Grows, Reader}
+use Rattle.s66_program.specs.{FEED_CALLS, FEED_ROOM, Memory, Calls, HasRoom, IsReadFault}
 use Rattle.s66_program.specs.declared.fault.Fault.{Fault}
-use Rattle.s66_program.specs.declared.fault.Fault.TheVariants.{Memory}
-use Rattle.s66_program.specs.Device.{Calls, HasRoom}
-use Rattle.s66_program.specs.ReadFaults.{IsReadFault}
 
 grows-more : (n m old mid new : ℕ) → Grows n old mid → Grows m mid new → Grows (n + m) old new
 grows-more n m old mid new first second small =

@@ -1,26 +1,16 @@
 -- The documents of answers to the blocks of a source are a text, in one way, and the verdict on each is yes.
 use Rattle.std.proofs.Common.{ℕ, zero, suc, ◌+◌, ◌-◌, ◌≡◌, ◌&&◌, ◌∙◌, Bool, true, false, if◌then◌else◌, Option, None, Some, List, [], ◌∷◌, ◌++◌, drop, take, refl, sym, ap, ap₂, arith, inl, inr}
-use Rattle.s66_isa.specs.declared.profile.Profile.{Profile}
-use Rattle.s66_isa.specs.Lists.{Among, every}
-use Rattle.s66_isa.specs.declared.limits.TheConstants.{BLOCK_LIMIT}
-use Rattle.s66_line.specs.Blocks.{Block}
-use Rattle.s66_source.specs.LeftAlone.{Reading}
-use Rattle.s66_command.specs.declared.strategy.Strategy.{Strategy}
-use Rattle.s66_cert.specs.declared.limits.TheConstants.{SPLIT_LIMIT}
-use Rattle.s66_cert.specs.Documents.{AreDocumentsWithin, Document, IsText}
+use Rattle.s66_isa.specs.{Profile, Among, every, BLOCK_LIMIT}
+use Rattle.s66_command.specs.{Strategy}
+use Rattle.s66_line.specs.{Block}
+use Rattle.s66_source.specs.{Reading}
+use Rattle.s66_cert.specs.{SPLIT_LIMIT, AreDocumentsWithin, Document, IsText}
 use Rattle.s66_cert.proofs.OneReading.{one-list}
-use Rattle.s66_checker.specs.declared.verdict.Verdict.TheVariants.{Yes}
-use Rattle.s66_checker.specs.Verdict.{verdict}
-use Rattle.s66_answer.specs.Answers.{Answer, AreAnswers, document_under}
-use Rattle.s66_answer.specs.declared.outcome.Status.{Status}
-use Rattle.s66_answer.specs.declared.outcome.Status.TheVariants.{Done, Denied}
-use Rattle.s66_answer.specs.ProvedAnswers.{IsSpelledBlock}
-use Rattle.s66_answer.specs.Shown.{shown}
+use Rattle.s66_checker.specs.{Yes, verdict}
+use Rattle.s66_answer.specs.{Answer, AreAnswers, document_under, Status, Done, Denied, IsSpelledBlock, shown}
 use Rattle.s66_answer.proofs.EveryAnswer.{answer-document, answer-verdict}
 use Rattle.s66_answer.proofs.AnswerVerdicts.{spelled-block}
-use Rattle.s66_program.specs.CheckText.{IsCheckOutput, is_yes, reasons_by, verdict_line, verdict_lines, verdict_text, verdicts_status}
-use Rattle.s66_program.specs.CheckedAnswers.{AreYesLines, yes_lines, yes_text}
-use Rattle.s66_program.specs.ProveText.{IsProveOutput, all_documents}
+use Rattle.s66_program.specs.{IsCheckOutput, is_yes, reasons_by, verdict_line, verdict_lines, verdict_text, verdicts_status, AreYesLines, yes_lines, yes_text, IsProveOutput, all_documents}
 
 abbrev AreSpelled : List Block → Type 0
 AreSpelled blocks = (block : Block) → Among block blocks → IsSpelledBlock block

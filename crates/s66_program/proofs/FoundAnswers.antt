@@ -1,12 +1,12 @@
 -- What is found by answers to blocks is of these blocks.
 use Rattle.std.proofs.Common.{ℕ, ◌+◌, List, [], ◌∷◌, refl}
-use Rattle.s66_isa.specs.declared.profile.Profile.{Profile}
-use Rattle.s66_line.specs.Blocks.{Block}
-use Rattle.s66_model.specs.declared.rule.Rule.{Rule}
-use Rattle.s66_command.specs.declared.strategy.Strategy.{Strategy}
-use Rattle.s66_views.specs.FoundOrders.{AreOf}
-use Rattle.s66_answer.specs.Answers.{Answer, AreAnswers}
-use Rattle.s66_program.specs.PageText.{all_found}
+use Rattle.s66_isa.specs.{Profile}
+use Rattle.s66_model.specs.{Rule}
+use Rattle.s66_command.specs.{Strategy}
+use Rattle.s66_line.specs.{Block}
+use Rattle.s66_views.specs.{AreOf}
+use Rattle.s66_answer.specs.{Answer, AreAnswers}
+use Rattle.s66_program.specs.{all_found}
 
 pub found-of : (entries : List (List ℕ)) (strategy : Strategy) (rule : Rule) (p : Profile) (n : ℕ) (blocks : List Block) (answers : List Answer) →
     AreAnswers strategy p blocks answers → AreOf blocks (all_found entries rule p n blocks answers)

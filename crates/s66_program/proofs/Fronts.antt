@@ -1,19 +1,12 @@
 -- A text that is too long is refused as a source for what is in its front, whatever follows.
-use Rattle.std.proofs.Common.{◌≡◌, ◌≤◌, ◌<◌, ◌+◌, ◌*◌, ℕ, suc, Bool, true, false, if◌then◌else◌, List, [], ◌∷◌, ◌++◌, Option, None, Some, Err, inl, inr, length, refl, sym, ap, ◌∙◌, arith}
-use Rattle.std.specs.Prelude.{◌==◌}
-use Rattle.std.proofs.lemmas.List.{length-append}
-use Rattle.std.proofs.lemmas.Bool.{cases_lt, le-ltb, lt-ltb}
-use Rattle.s66_line.specs.Fields.{lines_from}
-use Rattle.s66_source.specs.LeftAlone.{Flagged, Reading, after_line, at_first, class_at, is_alone, is_continued, flagged_from, redefined_by}
-use Rattle.s66_source.specs.LeftAlone.{Standing}
+use Rattle.std.proofs.Common.{◌≡◌, ◌≤◌, ◌<◌, ◌+◌, ◌*◌, ℕ, suc, Bool, true, false, if◌then◌else◌, List, [], ◌∷◌, ◌++◌, Option, None, Some, Err, inl, inr, length, refl, sym, ap, ◌∙◌, arith, ◌==◌}
+use Rattle.std.proofs.Common.{length-append, le-ltb, lt-ltb}
+use Rattle.std.proofs.lemmas.Bool.{cases_lt}
+use Rattle.s66_line.specs.{lines_from, is_code, LINE_BYTES_LIMIT}
+use Rattle.s66_source.specs.{Flagged, Reading, after_line, at_first, class_at, is_alone, is_continued, flagged_from, redefined_by, Standing, blocks_of, classed_lines, classes_from, label_after}
+use Rattle.s66_source.specs.{operand_refusal, or_else, place_after, refusal, run_after, source_of, unless_refused, SourceError, LineTooLong, TooLarge, SOURCE_LINES_LIMIT}
 use Rattle.s66_source.proofs.CutLaw.{none-refused}
-use Rattle.s66_source.specs.Source.{blocks_of, classed_lines, classes_from, label_after, operand_refusal, or_else, place_after, refusal, run_after, source_of, unless_refused}
-use Rattle.s66_line.specs.Classes.{is_code}
-use Rattle.s66_source.specs.declared.error.SourceError.{SourceError}
-use Rattle.s66_source.specs.declared.error.SourceError.TheVariants.{LineTooLong, TooLarge}
-use Rattle.s66_line.specs.declared.limits.TheConstants.{LINE_BYTES_LIMIT}
-use Rattle.s66_source.specs.declared.limits.TheConstants.{SOURCE_LINES_LIMIT}
-use Rattle.s66_program.specs.declared.limits.TheConstants.{SOURCE_FRONT}
+use Rattle.s66_program.specs.{SOURCE_FRONT}
 
 -- both are refused, for the same
 abbrev AreRefused : Option SourceError → Option SourceError → Type 0

@@ -1,19 +1,15 @@
 -- How answers are printed where some blocks stand: each order has numbers of its block.
-use Rattle.std.proofs.Common.{ℕ, zero, suc, ◌≡◌, ◌≤◌, ◌-◌, ◌&&◌, if◌then◌else◌, Bool, true, false, List, [], ◌∷◌, ◌++◌, ap, arith, drop, inl, inr, length, min, refl, replicate, take, Option, None, Some, Ok, subst}
-use Rattle.s66_isa.specs.declared.profile.Profile.{Profile}
+use Rattle.std.proofs.Common.{ℕ, zero, suc, ◌≡◌, ◌≤◌, ◌-◌, ◌&&◌, if◌then◌else◌, Bool, true, false, List, [], ◌∷◌, ◌++◌, ap, arith, drop, inl, inr, length, min, refl, replicate, take, Option, None}
+use Rattle.std.proofs.Common.{Some, Ok, subst}
+use Rattle.s66_isa.specs.{Profile}
 use Rattle.s66_isa.proofs.Lists.{cases_le}
-use Rattle.s66_line.specs.Blocks.{Block}
-use Rattle.s66_source.specs.LeftAlone.{Reading}
-use Rattle.s66_source.specs.Printed.{Placed}
-use Rattle.s66_source.specs.Replaced.{AreGiven, printed_in, replaced, texts_of}
-use Rattle.s66_source.specs.Source.{Line, blocks_of, classed_lines, refusal, source_of}
+use Rattle.s66_command.specs.{OrderStyle, Strategy}
+use Rattle.s66_line.specs.{Block}
+use Rattle.s66_source.specs.{Reading, Placed, AreGiven, printed_in, replaced, texts_of, Line, blocks_of, classed_lines, refusal, source_of}
 use Rattle.s66_source.specs.declared.columns.Columns.{Columns}
-use Rattle.s66_command.specs.declared.command.OrderStyle.{OrderStyle}
-use Rattle.s66_command.specs.declared.strategy.Strategy.{Strategy}
-use Rattle.s66_answer.specs.Answers.{Answer, AreAnswers}
-use Rattle.s66_answer.specs.Shown.{before, shown}
+use Rattle.s66_answer.specs.{Answer, AreAnswers, before, shown}
 use Rattle.s66_answer.proofs.EveryAnswer.{answer-legal}
-use Rattle.s66_program.specs.OrderText.{all_given, given_by, rise_from, placed_by}
+use Rattle.s66_program.specs.{all_given, given_by, rise_from, placed_by}
 use Rattle.s66_program.proofs.PlacedAnswers.{legal-within, read-blocks}
 
 module _ (strategy : Strategy) (p : Profile) (style : OrderStyle) where

@@ -1,26 +1,13 @@
 -- The front of an input that is kept decides what becomes of the whole input (`run_under`).
-use Rattle.std.proofs.Common.{◌≡◌, ◌≤◌, ℕ, true, false, true≢false, List, ◌++◌, length, Option, None, Some, IfSome, Ok, Err, inl, inr, refl, ap, sym, subst, ◌∙◌}
-use Rattle.std.proofs.lemmas.List.{append-nil}
-use Rattle.s66_isa.specs.declared.profile.Profile.{Profile}
-use Rattle.s66_line.specs.Blocks.{Block}
-use Rattle.s66_source.specs.LeftAlone.{Reading}
-use Rattle.s66_source.specs.Source.{source_of}
-use Rattle.s66_source.specs.declared.error.SourceError.{SourceError}
-use Rattle.s66_command.specs.declared.command.Command.{Command}
-use Rattle.s66_command.specs.declared.command.Asked.{Asked}
-use Rattle.s66_command.specs.declared.command.Asked.TheVariants.{Time, Deps, Chart, Why, Page, Pairs, Json, Order, Prove, Check, Lint, Sum, Compare, Guard}
-use Rattle.s66_command.specs.declared.command.Reads.{Reads}
-use Rattle.s66_command.specs.declared.command.Reads.TheVariants.{Documents, Sources}
-use Rattle.s66_command.specs.CommandParts.{reads_cut, reads_of}
-use Rattle.s66_answer.specs.declared.outcome.Status.{Status}
-use Rattle.s66_program.specs.declared.limits.TheConstants.{SOURCE_FRONT}
+use Rattle.std.proofs.Common.{◌≡◌, ◌≤◌, ℕ, true, false, true≢false, List, ◌++◌, length, Option, None, Some, IfSome, Ok, Err, inl, inr, refl, ap, sym, subst, ◌∙◌, append-nil}
+use Rattle.s66_isa.specs.{Profile}
+use Rattle.s66_command.specs.{Command, Asked, Time, Deps, Chart, Why, Page, Pairs, Json, Order, Prove, Check, Lint, Sum, Compare, Guard, Reads, Documents, Sources, reads_cut, reads_of}
+use Rattle.s66_line.specs.{Block}
+use Rattle.s66_source.specs.{Reading, source_of, SourceError}
+use Rattle.s66_answer.specs.{Status}
+use Rattle.s66_program.specs.{SOURCE_FRONT, Remark, IsFull, IsKeptInput, IsAskedOutput, IsOutput, is_source, reads_source, source_in, IsRemark, IsRefusal}
 use Rattle.s66_program.specs.declared.fault.Fault.{Fault}
 use Rattle.s66_program.specs.declared.fault.Fault.TheVariants as fault
-use Rattle.s66_program.specs.declared.remark.Remark.{Remark}
-use Rattle.s66_program.specs.KeptInput.{IsFull, IsKeptInput}
-use Rattle.s66_program.specs.Output.{IsAskedOutput, IsOutput, is_source, reads_source, source_in}
-use Rattle.s66_program.specs.Remarks.{IsRemark}
-use Rattle.s66_program.specs.Run.{IsRefusal}
 use Rattle.s66_program.proofs.Fronts.{front-refused}
 
 -- the most that a command needs of a source, and None of another input

@@ -1,34 +1,23 @@
 -- What `order` wrote, with whichever options, and what is read again of it, compared with the source.
-use Rattle.std.proofs.Common.{ℕ, ◌≡◌, ◌-◌, ◌∙◌, zero, suc, Bool, true, false, ◌&&◌, if◌then◌else◌, List, [], ◌∷◌, ◌++◌, Option, None, Some, drop, length, replicate, take, refl, sym, ap, ap₂, subst, arith, inl, inr}
-use Rattle.std.specs.Prelude.{Ok, is_none}
+use Rattle.std.proofs.Common.{ℕ, ◌≡◌, ◌-◌, ◌∙◌, zero, suc, Bool, true, false, ◌&&◌, if◌then◌else◌, List, [], ◌∷◌, ◌++◌, Option, None, Some, drop, length, replicate, take, refl, sym, ap, ap₂, subst}
+use Rattle.std.proofs.Common.{arith, inl, inr, Ok, is_none}
 use Rattle.std.proofs.lemmas.List.{length-map}
-use Rattle.s66_isa.specs.Lists.{Among, every}
-use Rattle.s66_isa.specs.declared.profile.Profile.{Profile}
-use Rattle.s66_line.specs.Blocks.{Block, Entry, instrs_of}
-use Rattle.s66_command.specs.declared.command.OrderStyle.{OrderStyle}
-use Rattle.s66_command.specs.declared.strategy.Strategy.{Strategy}
-use Rattle.s66_answer.specs.declared.outcome.Status.{Status}
-use Rattle.s66_answer.specs.declared.outcome.Status.TheVariants.{Done, Denied}
-use Rattle.s66_answer.specs.Answers.{Answer, AreAnswers, IsAnswer}
-use Rattle.s66_answer.specs.Shown.{before, shown}
-use Rattle.s66_answer.proofs.EveryAnswer.{answer-legal}
-use Rattle.s66_program.specs.CompareText.{IsCompareOutput}
-use Rattle.s66_source.specs.Frame.{frame_of}
-use Rattle.s66_source.specs.Halves.{Halves, halves_of}
-use Rattle.s66_source.specs.LeftAlone.{Reading}
-use Rattle.s66_source.specs.Printed.{Placed}
-use Rattle.s66_source.specs.Source.{source_of}
+use Rattle.s66_isa.specs.{Among, every, Profile}
+use Rattle.s66_command.specs.{OrderStyle, Strategy}
+use Rattle.s66_line.specs.{Block, Entry, instrs_of}
+use Rattle.s66_source.specs.{frame_of, halves_of, Reading, Placed, source_of}
+use Rattle.s66_source.specs.Halves.{Halves}
 use Rattle.s66_source.proofs.PrintedLines.{same-blocks}
 use Rattle.s66_source.proofs.SourceAgain.{read-again}
 use Rattle.s66_source.proofs.SpelledLaw.{spelled}
-use Rattle.s66_compare.specs.Compared.{IsCompared, compared_text, is_accepted}
-use Rattle.s66_compare.specs.Difference.{first_difference, shapes}
-use Rattle.s66_compare.specs.Rows.{is_legal, rows_of}
+use Rattle.s66_compare.specs.{IsCompared, compared_text, is_accepted, first_difference, shapes, is_legal, rows_of}
 use Rattle.s66_compare.specs.declared.difference.Difference.{Difference}
 use Rattle.s66_compare.proofs.FrameAgain.{frame-again, same-none}
 use Rattle.s66_compare.proofs.Meanings.{IsSpelled}
 use Rattle.s66_compare.proofs.PlacedPairs.{AreLegal, IsLegalIf, given-legal, legal-complete, legal-given, legal-standing}
-use Rattle.s66_program.specs.OrderText.{IsOrdered, all_given, columns_by, given_by, placed_by, rise_from}
+use Rattle.s66_answer.specs.{Status, Done, Denied, Answer, AreAnswers, IsAnswer, before, shown}
+use Rattle.s66_answer.proofs.EveryAnswer.{answer-legal}
+use Rattle.s66_program.specs.{IsCompareOutput, IsOrdered, all_given, columns_by, given_by, placed_by, rise_from}
 use Rattle.s66_program.proofs.PlacedAnswers.{legal-within}
 
 -- AN ORDER BY AN ANSWER is legal, and each number of it is one of its block's

@@ -1,29 +1,18 @@
 -- Blocks that are read again from what `order` wrote take the times of their answers, or as long as they did.
-use Rattle.std.proofs.Common.{ℕ, zero, suc, ◌≡◌, ◌==◌, ◌&&◌, ◌++◌, ◌∙◌, Bool, true, false, if◌then◌else◌, List, [], ◌∷◌, Ok, Option, None, Some, drop, length, map, replicate, take, refl, sym, ap, ap₂, subst}
-use Rattle.std.proofs.lemmas.Bool.{and_parts, eqb-true}
-use Rattle.std.proofs.lemmas.List.{append-nil, length-map}
-use Rattle.s66_isa.specs.Lists.{rising}
-use Rattle.s66_isa.specs.Table.{numbers}
-use Rattle.s66_isa.specs.declared.instr.Instr.{Instr}
-use Rattle.s66_isa.specs.declared.profile.Profile.{Profile}
-use Rattle.s66_line.specs.Blocks.{Entry, Block, instrs_of}
-use Rattle.s66_source.specs.Replaced.{AreGiven}
-use Rattle.s66_source.specs.LeftAlone.{Reading}
-use Rattle.s66_source.specs.Printed.{Placed}
-use Rattle.s66_source.specs.ReadAgain.{AreComplete, AreGivenAgain, IsGivenAgain, IsPlacedAgain, IsSameAgain}
-use Rattle.s66_source.specs.Source.{source_of}
-use Rattle.s66_source.proofs.SourceAgain.{read-again}
-use Rattle.s66_command.specs.declared.command.OrderStyle.{OrderStyle}
-use Rattle.s66_command.specs.declared.strategy.Strategy.{Strategy}
-use Rattle.s66_model.specs.Answer.{source_time}
-use Rattle.s66_model.specs.Timing.{total_of}
+use Rattle.std.proofs.Common.{ℕ, zero, suc, ◌≡◌, ◌==◌, ◌&&◌, ◌++◌, ◌∙◌, Bool, true, false, if◌then◌else◌, List, [], ◌∷◌, Ok, Option, None, Some, drop, length, map, replicate, take, refl, sym, ap, ap₂}
+use Rattle.std.proofs.Common.{subst, eqb-true, append-nil}
+use Rattle.std.proofs.lemmas.Bool.{and_parts}
+use Rattle.std.proofs.lemmas.List.{length-map}
+use Rattle.s66_isa.specs.{rising, numbers, Instr, Profile}
+use Rattle.s66_model.specs.{source_time, total_of}
 use Rattle.s66_model.proofs.WrittenOrders.{written-order}
-use Rattle.s66_answer.specs.Answers.{Answer, AreAnswers, IsAnswer, problem_of}
-use Rattle.s66_answer.specs.Shown.{before, shown}
-use Rattle.s66_answer.specs.declared.outcome.Status.{Status}
+use Rattle.s66_command.specs.{OrderStyle, Strategy}
+use Rattle.s66_line.specs.{Entry, Block, instrs_of}
+use Rattle.s66_source.specs.{AreGiven, Reading, Placed, AreComplete, AreGivenAgain, IsGivenAgain, IsPlacedAgain, IsSameAgain, source_of}
+use Rattle.s66_source.proofs.SourceAgain.{read-again}
+use Rattle.s66_answer.specs.{Answer, AreAnswers, IsAnswer, problem_of, before, shown, Status}
 use Rattle.s66_answer.proofs.EveryAnswer.{answer-legal, answer-time}
-use Rattle.s66_program.specs.OrderText.{IsOrdered, all_given, columns_by, given_by, placed_by, rise_from}
-use Rattle.s66_program.specs.OrderedAgain.{TakePrintedTimes, with_times, written_time}
+use Rattle.s66_program.specs.{IsOrdered, all_given, columns_by, given_by, placed_by, rise_from, TakePrintedTimes, with_times, written_time}
 use Rattle.s66_program.proofs.PlacedAnswers.{legal-within}
 
 -- THE ORDER OF THE SOURCE

@@ -1,19 +1,15 @@
 -- How answers are printed: each order has numbers of its block.
 use Rattle.std.proofs.Common.{ℕ, ◌≡◌, ◌≤◌, Bool, List, [], ◌∷◌, ◌++◌, length, Option, None, Some, inl, inr, sym, subst, Ok}
 use Rattle.std.proofs.lemmas.List.{length-map}
-use Rattle.s66_isa.specs.declared.instr.Instr.{Instr}
-use Rattle.s66_isa.specs.declared.profile.Profile.{Profile}
-use Rattle.s66_isa.specs.Lists.{Among}
-use Rattle.s66_source.specs.declared.error.SourceError.{SourceError}
-use Rattle.s66_line.specs.Blocks.{instrs_of, Entry, Block}
-use Rattle.s66_source.specs.Printed.{ArePlaced}
-use Rattle.s66_source.specs.Source.{unless_refused}
-use Rattle.s66_command.specs.declared.strategy.Strategy.{Strategy}
-use Rattle.s66_model.specs.LegalOrder.{GoesOn, IsLegal}
+use Rattle.s66_isa.specs.{Instr, Profile, Among}
+use Rattle.s66_model.specs.{GoesOn, IsLegal}
 use Rattle.s66_model.proofs.LegalOrders.{legal-order, ready-parts}
-use Rattle.s66_answer.specs.Answers.{Answer, AreAnswers}
+use Rattle.s66_command.specs.{Strategy}
+use Rattle.s66_line.specs.{instrs_of, Entry, Block}
+use Rattle.s66_source.specs.{SourceError, ArePlaced, unless_refused}
+use Rattle.s66_answer.specs.{Answer, AreAnswers}
 use Rattle.s66_answer.proofs.EveryAnswer.{answer-legal}
-use Rattle.s66_program.specs.OrderText.{all_placed}
+use Rattle.s66_program.specs.{all_placed}
 
 number-within : (block : List Instr) (prefix ns : List ℕ) → GoesOn block prefix ns → (n : ℕ) → Among n ns → (1 ≤ n) × (n ≤ length block)
 number-within block prefix [] goes n among = absurd among

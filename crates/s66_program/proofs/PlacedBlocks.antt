@@ -1,12 +1,11 @@
 -- The order that was found for a block, at its place of a list: its numbers are those of the block.
-use Rattle.std.proofs.Common.{◌≡◌, ◌≤◌, ◌<◌, ℕ, zero, suc, List, [], ◌∷◌, Some, arith, length, slice_index_or, subst, sym, Bor}
 use Rattle.std.specs.Slice.{IsItemAt}
+use Rattle.std.proofs.Common.{◌≡◌, ◌≤◌, ◌<◌, ℕ, zero, suc, List, [], ◌∷◌, Some, arith, length, slice_index_or, subst, sym, Bor}
 use Rattle.std.proofs.lemmas.List.{length-map}
-use Rattle.s66_isa.specs.Lists.{Among}
-use Rattle.s66_isa.specs.Table.{numbers}
+use Rattle.s66_isa.specs.{Among, numbers}
 use Rattle.s66_isa.proofs.Lists.{among-rising}
-use Rattle.s66_line.specs.Blocks.{Block, Entry, instrs_of}
-use Rattle.s66_source.specs.Printed.{ArePlaced, Placed}
+use Rattle.s66_line.specs.{Block, Entry, instrs_of}
+use Rattle.s66_source.specs.{ArePlaced, Placed}
 
 -- numbers of the source order are of the block
 pub source-within : (block : Block) (n : ℕ) → Among n (numbers (instrs_of block)) → (1 ≤ n) × (n ≤ length block.entries)

@@ -1,7 +1,6 @@
 -- What is kept of an input, as one call of the reader more brings bytes.
-use Rattle.std.proofs.Common.{◌≡◌, ℕ, List, [], ◌++◌, Option, inl, inr, append_assoc, refl, ap, sym, subst, ◌∙◌}
-use Rattle.std.proofs.lemmas.List.{append-nil}
-use Rattle.s66_program.specs.KeptInput.{IsFull, IsKeptInput, Puts}
+use Rattle.std.proofs.Common.{◌≡◌, ℕ, List, [], ◌++◌, Option, inl, inr, append_assoc, refl, ap, sym, subst, ◌∙◌, append-nil}
+use Rattle.s66_program.specs.{IsFull, IsKeptInput, Puts}
 
 pub kept-more : (most : Option ℕ) (input bytes old new : List ℕ) → IsKeptInput most input old → Puts most bytes old new → IsKeptInput most (input ++ bytes) new
 kept-more most input bytes old new (rest, is, inl none) (inl (room, more)) =

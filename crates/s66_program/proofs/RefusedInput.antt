@@ -1,16 +1,12 @@
 -- What a command leaves if its input is refused: all was read, and nothing is written.
-use Rattle.std.proofs.Common.{◌≡◌, ◌+◌, ◌≤◌, ℕ, List, Option, None, Some, Result, Ok, Err, refl, ap, sym, subst, arith}
 use Rattle.std.specs.Io.KnownBytes.{Keeps}
-use Rattle.std.specs.Result.{IsErr, IsErrAnd}
-use Rattle.s66_isa.specs.declared.profile.Profile.{Profile}
-use Rattle.s66_device.specs.Devices.{IsUntouched, Reader, Writer}
-use Rattle.s66_command.specs.declared.command.Command.{Command}
+use Rattle.std.proofs.Common.{◌≡◌, ◌+◌, ◌≤◌, ℕ, List, Option, None, Some, Result, Ok, Err, refl, ap, sym, subst, arith, IsErr, IsErrAnd}
+use Rattle.s66_isa.specs.{Profile}
+use Rattle.s66_command.specs.{Command}
+use Rattle.s66_device.specs.{IsUntouched, Reader, Writer}
 use Rattle.s66_program.specs.declared.fault.Fault.{Fault}
 use Rattle.s66_program.specs.declared.fault.Fault.TheVariants as fault
-use Rattle.s66_program.specs.declared.remark.Ended.{Ended}
-use Rattle.s66_program.specs.declared.limits.TheConstants.{FEED_CALLS}
-use Rattle.s66_program.specs.Device.{ReadsAll, ReadsSome}
-use Rattle.s66_program.specs.Run.{IsOutcomeUnder, IsRefusal}
+use Rattle.s66_program.specs.{Ended, FEED_CALLS, ReadsAll, ReadsSome, IsOutcomeUnder, IsRefusal}
 
 keeps : (bytes : Option (List ℕ)) → Keeps bytes bytes
 keeps None = tt

@@ -1,36 +1,22 @@
 -- What the line of a report says by its bytes: if it ends in BEST, it is of an answer that is best, and no other bound is read in it than the answer's.
-use Rattle.std.proofs.Common.{ℕ, zero, suc, ◌+◌, ◌-◌, ◌^◌, ◌≡◌, ◌<◌, ◌==◌, ◌&&◌, ◌||◌, not, ◌∙◌, Bool, true, false, if◌then◌else◌, List, [], ◌∷◌, ◌++◌, drop, take, replicate, length, Option, Some, None, codes, refl, sym, ap, subst, arith, inl, inr, append_assoc, eqb, leb, leb-true}
-use Rattle.std.specs.Prelude.{◌⊎◌, decimal}
-use Rattle.std.proofs.lemmas.Bool.{and_parts, eq-eqb, eqb-true, ne_eqb, not-true}
-use Rattle.std.proofs.lemmas.List.{append-nil}
-use Rattle.s66_isa.specs.Lists.{Among, every}
-use Rattle.s66_isa.specs.declared.profile.Profile.{Profile}
-use Rattle.s66_line.specs.Blocks.{Block}
-use Rattle.s66_line.specs.Characters.{is_decimal}
-use Rattle.s66_line.proofs.Wholes.{every-append, is_inside}
-use Rattle.s66_model.specs.Answer.{source_time}
-use Rattle.s66_model.specs.BestAndBound.{IsBound}
-use Rattle.s66_model.specs.Timing.{Problem, total_of}
+use Rattle.std.proofs.Common.{ℕ, zero, suc, ◌+◌, ◌-◌, ◌^◌, ◌≡◌, ◌<◌, ◌==◌, ◌&&◌, ◌||◌, not, ◌∙◌, Bool, true, false, if◌then◌else◌, List, [], ◌∷◌, ◌++◌, drop, take, replicate, length, Option, Some}
+use Rattle.std.proofs.Common.{None, codes, refl, sym, ap, subst, arith, inl, inr, append_assoc, eqb, leb, leb-true, ◌⊎◌, decimal, eq-eqb, eqb-true, ne_eqb, append-nil}
+use Rattle.std.proofs.lemmas.Bool.{and_parts, not-true}
+use Rattle.s66_isa.specs.{Among, every, Profile}
+use Rattle.s66_model.specs.{source_time, IsBound, Problem, total_of}
 use Rattle.s66_model.proofs.Growth.{total-le}
-use Rattle.s66_cert.specs.Lines.{value_after}
-use Rattle.s66_cert.proofs.NumberTexts.{decimal-clear, decimal-digits, decimal-value, is_other}
-use Rattle.s66_command.specs.declared.strategy.Strategy.{Strategy}
-use Rattle.s66_answer.specs.declared.outcome.Status.{Status}
-use Rattle.s66_source.specs.LeftAlone.{Reading}
-use Rattle.s66_source.specs.Columns.{indented_lines, indents}
-use Rattle.s66_source.specs.Printed.{Placed, bound_text, notes_text, splits_line, times_text}
-use Rattle.s66_source.specs.Replaced.{anew_text, texts_of}
-use Rattle.s66_source.specs.Source.{Line, blocks_of, classed_lines}
+use Rattle.s66_command.specs.{Strategy, OrderStyle}
+use Rattle.s66_line.specs.{Block, is_decimal}
+use Rattle.s66_line.proofs.Wholes.{every-append, is_inside}
+use Rattle.s66_source.specs.{Reading, indented_lines, indents, Placed, bound_text, notes_text, splits_line, times_text, anew_text, texts_of, Line, blocks_of, classed_lines}
 use Rattle.s66_source.proofs.PrintedLines.{accepted-is}
 use Rattle.s66_source.proofs.ReadComments.{inside-decimal, inside-times}
-use Rattle.s66_answer.specs.Answers.{Answer, AreAnswers, IsAnswer, problem_of}
-use Rattle.s66_answer.specs.ProvedAnswers.{IsSpelledBlock}
+use Rattle.s66_cert.specs.{value_after}
+use Rattle.s66_cert.proofs.NumberTexts.{decimal-clear, decimal-digits, decimal-value, is_other}
+use Rattle.s66_answer.specs.{Status, Answer, AreAnswers, IsAnswer, problem_of, IsSpelledBlock, before, shown}
 use Rattle.s66_answer.proofs.AnswerVerdicts.{spelled-block}
 use Rattle.s66_answer.proofs.EveryAnswer.{answer-bound, answer-legal, answer-time}
-use Rattle.s66_answer.specs.Shown.{before, shown}
-use Rattle.s66_command.specs.declared.command.OrderStyle.{OrderStyle}
-use Rattle.s66_program.specs.OrderText.{IsOrdered, all_given, columns_by, given_by, placed_by, rise_from}
-use Rattle.s66_program.specs.Reports.{AreChosen, EndsIn, IsReported, ReportsBlocks, is_asked}
+use Rattle.s66_program.specs.{IsOrdered, all_given, columns_by, given_by, placed_by, rise_from, AreChosen, EndsIn, IsReported, ReportsBlocks, is_asked}
 
 -- THE LAST BYTE
 

@@ -1,11 +1,11 @@
 -- Two texts that are told to standard error one after the other are told as one.
-use Rattle.std.proofs.Common.{◌≡◌, ◌+◌, ℕ, List, ◌++◌, Option, None, Some, length, take, append_assoc, refl, sym, ap, ◌∙◌, subst, inl, inr, arith}
 use Rattle.std.specs.Io.KnownBytes.{Appends}
+use Rattle.std.proofs.Common.{◌≡◌, ◌+◌, ℕ, List, ◌++◌, Option, None, Some, length, take, append_assoc, refl, sym, ap, ◌∙◌, subst, inl, inr, arith, take_all}
 use Rattle.std.proofs.Math.Seq.{take-append-add, take-append_seam}
 use Rattle.std.proofs.lemmas.Bool.{cases_lt}
-use Rattle.std.proofs.lemmas.List.{take-append-le, take_all}
-use Rattle.s66_device.specs.Devices.{WriteFails, Writer, Writes}
-use Rattle.s66_program.specs.Device.{Tells}
+use Rattle.std.proofs.lemmas.List.{take-append-le}
+use Rattle.s66_device.specs.{WriteFails, Writer, Writes}
+use Rattle.s66_program.specs.{Tells}
 
 appends-both : (old mid new : Option (List ℕ)) (first second : List ℕ) → Appends old mid first → Appends mid new second → Appends old new (first ++ second)
 appends-both None mid new first second h k = tt

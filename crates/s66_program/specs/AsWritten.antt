@@ -1,9 +1,7 @@
 -- To be believed: a block in the order in which it was written, under a profile.
 use Rattle.std.specs.Prelude.{ℕ, List}
-use Rattle.s66_isa.specs.declared.instr.Instr.{Instr}
-use Rattle.s66_isa.specs.declared.profile.Profile.{Profile}
-use Rattle.s66_isa.specs.Table.{numbers}
-use Rattle.s66_model.specs.Timing.{total_of}
+use Rattle.s66_isa.specs.{Instr, Profile, numbers}
+use Rattle.s66_model.specs.{total_of}
 use Rattle.s66_time.specs.TimedOrder.{TimedOrder}
 
 abbrev pub as_written : Profile → List Instr → TimedOrder

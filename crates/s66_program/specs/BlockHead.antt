@@ -1,6 +1,6 @@
 -- To be believed: how the first line of a block begins, whatever the command, and that line where it tells what an order takes.
 use Rattle.std.specs.Prelude.{ℕ, List, ◌++◌, codes, decimal}
-use Rattle.s66_line.specs.Blocks.{line_of, Block}
+use Rattle.s66_line.specs.{line_of, Block}
 use Rattle.s66_time.specs.TimedOrder.{TimedOrder}
 use Rattle.s66_program.specs.AsWritten.{total_time}
 

@@ -1,14 +1,12 @@
 -- To be believed: what `chart` writes of a source, and how it ends: for each block a line, and the chart of the block as it was
 -- written, with `--text` also its texts and a ruler, and with `--units` below these what holds units and registers.
 use Rattle.std.specs.Prelude.{ℕ, Bool, if◌then◌else◌, List, ◌++◌, Option}
-use Rattle.s66_isa.specs.declared.profile.Profile.{Profile}
-use Rattle.s66_why.specs.Chart.{chart_text}
-use Rattle.s66_why.specs.Reservations.{units_chart}
-use Rattle.s66_why.specs.TextChart.{text_chart}
-use Rattle.s66_line.specs.Blocks.{instrs_of, Block}
+use Rattle.s66_isa.specs.{Profile}
+use Rattle.s66_line.specs.{instrs_of, Block}
+use Rattle.s66_source.specs.{Reading}
 use Rattle.s66_time.specs.TimedOrder.{TimedOrder}
-use Rattle.s66_source.specs.LeftAlone.{Reading}
-use Rattle.s66_answer.specs.declared.outcome.Status.{Status}
+use Rattle.s66_why.specs.{chart_text, units_chart, text_chart}
+use Rattle.s66_answer.specs.{Status}
 use Rattle.s66_program.specs.AsWritten.{as_written}
 use Rattle.s66_program.specs.BlockHead.{timed_line}
 use Rattle.s66_program.specs.Listing.{IsListing}

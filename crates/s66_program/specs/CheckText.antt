@@ -1,16 +1,12 @@
 -- To be believed: what `check` writes for documents, and how it ends: a line for each, with the verdict on it, and with `--text` sentences that
 -- say why no order is faster.
 use Rattle.std.specs.Prelude.{ℕ, ◌+◌, ◌≡◌, if◌then◌else◌, Bool, true, false, List, [], ◌∷◌, ◌++◌, codes, decimal}
-use Rattle.s66_isa.specs.Lists.{every}
-use Rattle.s66_isa.specs.declared.limits.TheConstants.{BLOCK_LIMIT}
-use Rattle.s66_cert.specs.Documents.{Document, IsText}
+use Rattle.s66_isa.specs.{every, BLOCK_LIMIT}
+use Rattle.s66_cert.specs.{Document, IsText}
 use Rattle.s66_checker.specs.declared.verdict.Verdict.{Verdict}
-use Rattle.s66_checker.specs.declared.verdict.Verdict.TheVariants.{Yes, No}
-use Rattle.s66_checker.specs.Reasons.{number_of}
-use Rattle.s66_checker.specs.Verdict.{verdict}
-use Rattle.s66_reasons.specs.Reasons.{reasons_text}
-use Rattle.s66_answer.specs.declared.outcome.Status.{Status}
-use Rattle.s66_answer.specs.declared.outcome.Status.TheVariants.{Done, Denied}
+use Rattle.s66_checker.specs.{Yes, No, number_of, verdict}
+use Rattle.s66_reasons.specs.{reasons_text}
+use Rattle.s66_answer.specs.{Status, Done, Denied}
 
 -- the line of the n-th document, from 1
 abbrev pub verdict_line : ℕ → Verdict → List ℕ

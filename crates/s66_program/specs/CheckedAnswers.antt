@@ -1,15 +1,13 @@
 -- To be believed: what `check` writes for what `prove` wrote, without `--text` or with it.
 use Rattle.std.specs.Prelude.{ℕ, ◌+◌, ◌≡◌, Bool, true, false, List, [], ◌∷◌, ◌++◌, Ok, Option}
-use Rattle.s66_isa.specs.declared.profile.Profile.{Profile}
-use Rattle.s66_line.specs.Blocks.{Block}
-use Rattle.s66_source.specs.LeftAlone.{Reading}
-use Rattle.s66_source.specs.Source.{source_of}
-use Rattle.s66_command.specs.declared.strategy.Strategy.{Strategy}
-use Rattle.s66_cert.specs.Documents.{Document, documents_text}
-use Rattle.s66_checker.specs.declared.verdict.Verdict.TheVariants.{Yes}
-use Rattle.s66_answer.specs.Answers.{Answer, AreAnswers}
-use Rattle.s66_answer.specs.Shown.{shown}
-use Rattle.s66_reasons.specs.Reasons.{reasons_text}
+use Rattle.s66_isa.specs.{Profile}
+use Rattle.s66_command.specs.{Strategy}
+use Rattle.s66_line.specs.{Block}
+use Rattle.s66_source.specs.{Reading, source_of}
+use Rattle.s66_cert.specs.{Document, documents_text}
+use Rattle.s66_checker.specs.{Yes}
+use Rattle.s66_reasons.specs.{reasons_text}
+use Rattle.s66_answer.specs.{Answer, AreAnswers, shown}
 use Rattle.s66_program.specs.CheckText.{verdict_line}
 use Rattle.s66_program.specs.ProveText.{all_documents}
 

@@ -1,12 +1,11 @@
 -- To be believed: what `compare` and `page --compare` write of the two sources of an input, and how they end.
 use Rattle.std.specs.Prelude.{ℕ, ◌≡◌, if◌then◌else◌, Bool, List, Some}
-use Rattle.s66_isa.specs.declared.profile.Profile.{Profile}
-use Rattle.s66_source.specs.Halves.{Halves, halves_of}
-use Rattle.s66_source.specs.LeftAlone.{Reading}
-use Rattle.s66_compare.specs.Compared.{IsCompared}
-use Rattle.s66_views.specs.Pairs.{IsPairsPage}
-use Rattle.s66_answer.specs.declared.outcome.Status.{Status}
-use Rattle.s66_answer.specs.declared.outcome.Status.TheVariants.{Done, Denied}
+use Rattle.s66_isa.specs.{Profile}
+use Rattle.s66_source.specs.Halves.{Halves}
+use Rattle.s66_source.specs.{halves_of, Reading}
+use Rattle.s66_compare.specs.{IsCompared}
+use Rattle.s66_views.specs.{IsPairsPage}
+use Rattle.s66_answer.specs.{Status, Done, Denied}
 use Rattle.s66_program.specs.declared.compare_text.View.{View}
 use Rattle.s66_program.specs.declared.compare_text.View.TheVariants.{InLines, InPairs}
 

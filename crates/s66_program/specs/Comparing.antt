@@ -1,9 +1,7 @@
 -- Used by contracts within the crate alone: why the two sources of an input are refused.
 use Rattle.std.specs.Prelude.{◌≡◌, ◌≢◌, Bool, true, ℕ, List, None, Some, Err, is_ok}
-use Rattle.s66_source.specs.Halves.{Halves, halves_of}
-use Rattle.s66_source.specs.LeftAlone.{Reading}
-use Rattle.s66_source.specs.Source.{source_of}
-use Rattle.s66_source.specs.declared.error.SourceError.TheVariants.{OutOfMemory}
+use Rattle.s66_source.specs.Halves.{Halves}
+use Rattle.s66_source.specs.{halves_of, Reading, source_of, OutOfMemory}
 use Rattle.s66_program.specs.declared.fault.Fault.{Fault}
 use Rattle.s66_program.specs.declared.fault.Fault.TheVariants as fault
 

@@ -1,14 +1,12 @@
 -- To be believed: what `deps` writes of a source, and how it ends: for each block a line, and a line for each instruction that
 -- depends on some; with `--text` a line for each pair.
 use Rattle.std.specs.Prelude.{ℕ, Bool, if◌then◌else◌, List, [], ◌∷◌, ◌++◌, length, Option, codes, decimal, flat_map}
-use Rattle.s66_isa.specs.declared.instr.Instr.{Instr}
-use Rattle.s66_isa.specs.Lists.{after_blanks, weigh}
-use Rattle.s66_isa.specs.Table.{instr_at, numbers}
-use Rattle.s66_model.specs.Dependence.{needs, all_needs}
-use Rattle.s66_line.specs.Blocks.{instrs_of, text_of, Block}
-use Rattle.s66_source.specs.LeftAlone.{Reading}
-use Rattle.s66_why.specs.Hazards.{hazards, hazards_text}
-use Rattle.s66_answer.specs.declared.outcome.Status.{Status}
+use Rattle.s66_isa.specs.{Instr, after_blanks, weigh, instr_at, numbers}
+use Rattle.s66_model.specs.{needs, all_needs}
+use Rattle.s66_line.specs.{instrs_of, text_of, Block}
+use Rattle.s66_source.specs.{Reading}
+use Rattle.s66_why.specs.{hazards, hazards_text}
+use Rattle.s66_answer.specs.{Status}
 use Rattle.s66_program.specs.BlockHead.{block_head}
 use Rattle.s66_program.specs.Listing.{IsListing}
 

@@ -1,7 +1,7 @@
 -- To be believed: what reading an input to its end leaves of a reader, and printing a text of a writer.
 use Rattle.std.specs.Prelude.{◌≡◌, ◌⊎◌, ◌+◌, ◌<◌, ◌≤◌, ℕ, List, length}
 use Rattle.std.specs.Io.KnownBytes.{Consumes, IsAtEnd}
-use Rattle.s66_device.specs.Devices.{Grows, Reader, WriteFails, Writer, Writes}
+use Rattle.s66_device.specs.{Grows, Reader, WriteFails, Writer, Writes}
 use Rattle.s66_program.specs.declared.limits.TheConstants.{FEED_CALLS, FEED_ROOM}
 
 -- each call that didn't fail had room for 65,536 bytes

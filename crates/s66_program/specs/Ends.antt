@@ -2,16 +2,13 @@
 use Rattle.std.specs.Prelude.{◌≡◌, ◌≢◌, ◌⊎◌, ℕ, List, ◌++◌, Option, Result, Ok, Err, codes, string_bytes}
 use Rattle.std.specs.declared.io.ErrorKind.{ErrorKind}
 use Rattle.std.specs.declared.io.ErrorKind.TheVariants as kind
-use Rattle.s66_device.specs.Devices.{IsUntouched, WriteFails, Writer, Writes}
-use Rattle.s66_answer.specs.StatusCode.{status_code}
+use Rattle.s66_command.specs.{Command, Help, Bad, OutOfMemory, profile_text, usage_code}
+use Rattle.s66_command.specs.declared.usage.Usage.{Usage}
+use Rattle.s66_device.specs.{IsUntouched, WriteFails, Writer, Writes}
+use Rattle.s66_answer.specs.{status_code}
 use Rattle.s66_program.specs.declared.fault.Fault.{Fault}
 use Rattle.s66_program.specs.declared.fault.Fault.TheVariants.{Memory, Profile, Write}
 use Rattle.s66_program.specs.declared.remark.Ended.{Ended}
-use Rattle.s66_command.specs.declared.command.Command.{Command}
-use Rattle.s66_command.specs.declared.usage.Usage.{Usage}
-use Rattle.s66_command.specs.declared.usage.Usage.TheVariants.{Help, Bad, OutOfMemory}
-use Rattle.s66_command.specs.CommandParts.{profile_text}
-use Rattle.s66_command.specs.Usage.{usage_code}
 use Rattle.s66_program.specs.Device.{Tells}
 use Rattle.s66_program.specs.Hints.{hint_of}
 use Rattle.s66_program.specs.Fault.{fault_code, fault_line}

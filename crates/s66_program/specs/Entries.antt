@@ -1,8 +1,7 @@
 -- To be believed: by what name each block of a source is entered.
 use Rattle.std.specs.Prelude.{ℕ, ◌-◌, if◌then◌else◌, List, [], ◌∷◌, get_or}
-use Rattle.s66_line.specs.Fields.{location}
-use Rattle.s66_source.specs.Frame.{FramePart, frame_of}
-use Rattle.s66_source.specs.LeftAlone.{Reading, has_operation}
+use Rattle.s66_line.specs.{location}
+use Rattle.s66_source.specs.{FramePart, frame_of, Reading, has_operation}
 use Rattle.s66_program.specs.Statement.{name_in}
 
 -- the name of the last line that is neither a comment nor a continuation, after one line more

@@ -2,13 +2,10 @@
 -- what `decimal` computes by
 unfoldable pub use Rattle.std.specs.Fmt.{digits}
 use Rattle.std.specs.Prelude.{ℕ, List, [], ◌∷◌, ◌++◌, None, codes}
-use Rattle.s66_line.specs.Blocks.{Block}
-use Rattle.s66_source.specs.LeftAlone.{plain}
-use Rattle.s66_source.specs.Source.{blocks_of, classed_lines}
-use Rattle.s66_model.specs.Leaves.{Chain}
-use Rattle.s66_model.specs.Trees.{Alone}
-use Rattle.s66_model.specs.DominatedLeaves.{Bounding}
-use Rattle.s66_answer.specs.Answers.{Answer}
+use Rattle.s66_model.specs.{Chain, Alone, Bounding}
+use Rattle.s66_line.specs.{Block}
+use Rattle.s66_source.specs.{plain, blocks_of, classed_lines}
+use Rattle.s66_answer.specs.{Answer}
 
 abbrev pub one_load_source : List ℕ
 one_load_source = codes "  SA1 A1+B1\n" ++ codes "  BX6 X1\n" ++ codes "  BX7 X2\n"

@@ -1,13 +1,10 @@
 -- To be believed: the status of the process after a fault, and the line that standard error gets of it.
 use Rattle.std.specs.Prelude.{ℕ, List, ◌++◌, codes}
-use Rattle.s66_cert.specs.declared.error.CertError.{CertError}
-use Rattle.s66_cert.specs.declared.error.CertError.TheVariants as cert
-use Rattle.s66_source.specs.declared.error.SourceError.{SourceError}
-use Rattle.s66_source.specs.declared.error.SourceError.TheVariants.{BadOperand, LineTooLong, OutOfMemory, TooLarge}
-use Rattle.s66_source.specs.Refusals.{refusal_line}
-use Rattle.s66_cert.specs.Refusals.{document_refusal_line}
-use Rattle.s66_command.specs.declared.profile_error.ProfileError.{ProfileError}
+use Rattle.s66_command.specs.{ProfileError}
 use Rattle.s66_command.specs.declared.profile_error.ProfileError.TheVariants as profile
+use Rattle.s66_source.specs.{SourceError, BadOperand, LineTooLong, OutOfMemory, TooLarge, refusal_line}
+use Rattle.s66_cert.specs.{CertError, document_refusal_line}
+use Rattle.s66_cert.specs.declared.error.CertError.TheVariants as cert
 use Rattle.s66_program.specs.declared.fault.Fault.{Fault}
 use Rattle.s66_program.specs.declared.fault.Fault.TheVariants.{Source, NewSource, NoNewSource, Document, Profile, Memory, Read, Write}
 

@@ -1,11 +1,10 @@
 -- To be believed: the second line of a refusal, which names the way out, by the text of the profile that was asked for.
 use Rattle.std.specs.Prelude.{ℕ, List, [], ◌++◌, Option, Some, codes}
-use Rattle.s66_cert.specs.declared.error.CertError.TheVariants.{BadLine, Truncated}
-use Rattle.s66_source.specs.declared.error.SourceError.{SourceError}
-use Rattle.s66_source.specs.declared.error.SourceError.TheVariants.{BadOperand, LineTooLong, TooLarge, OutOfMemory}
+use Rattle.s66_command.specs.{hint_in_text}
+use Rattle.s66_source.specs.{SourceError, BadOperand, LineTooLong, TooLarge, OutOfMemory}
+use Rattle.s66_cert.specs.{BadLine, Truncated}
 use Rattle.s66_program.specs.declared.fault.Fault.{Fault}
 use Rattle.s66_program.specs.declared.fault.Fault.TheVariants.{Source, NewSource, NoNewSource, Document, Profile}
-use Rattle.s66_command.specs.ProfileHint.{hint_in_text}
 
 -- of a source, with its newline
 abbrev pub source_way_out : SourceError → List ℕ

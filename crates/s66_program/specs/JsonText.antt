@@ -1,16 +1,13 @@
 -- To be believed: what `json` writes of a source, and how it ends: for each block a line of JSON, of the block as it was written and with `--order` also in the order of an answer of a search.
 use Rattle.std.specs.Prelude.{ℕ, ◌≡◌, List, Option, None, Some}
 use Rattle.serde_json.specs.Data.{null}
-use Rattle.s66_isa.specs.declared.profile.Profile.{Profile}
-use Rattle.s66_line.specs.Blocks.{instrs_of, Block}
-use Rattle.s66_source.specs.LeftAlone.{Reading}
-use Rattle.s66_command.specs.declared.strategy.Strategy.{Strategy}
+use Rattle.s66_isa.specs.{Profile}
+use Rattle.s66_command.specs.{Strategy}
+use Rattle.s66_line.specs.{instrs_of, Block}
+use Rattle.s66_source.specs.{Reading}
+use Rattle.s66_views.specs.{found_data, json_line}
+use Rattle.s66_answer.specs.{Answer, problem_of, Status, IsOfAnswers, all_parts, before}
 use Rattle.s66_program.specs.Entries.{entries_of, entry_at}
-use Rattle.s66_views.specs.Json.{found_data, json_line}
-use Rattle.s66_answer.specs.Answers.{Answer, problem_of}
-use Rattle.s66_answer.specs.declared.outcome.Status.{Status}
-use Rattle.s66_answer.specs.OfAnswers.{IsOfAnswers, all_parts}
-use Rattle.s66_answer.specs.Shown.{before}
 use Rattle.s66_program.specs.AsWritten.{as_written}
 use Rattle.s66_program.specs.Listing.{IsListing}
 

@@ -1,10 +1,8 @@
 -- To be believed: what `lint` writes for a source, which may be any text, and how it ends.
 use Rattle.std.specs.Prelude.{ℕ, ◌≡◌, Bool, true, false, List, [], ◌∷◌, is_err}
-use Rattle.s66_lint.specs.Listing.{IsFindings}
-use Rattle.s66_source.specs.LeftAlone.{Reading}
-use Rattle.s66_source.specs.Source.{source_of}
-use Rattle.s66_answer.specs.declared.outcome.Status.{Status}
-use Rattle.s66_answer.specs.declared.outcome.Status.TheVariants.{Done, Denied, Listed}
+use Rattle.s66_source.specs.{Reading, source_of}
+use Rattle.s66_lint.specs.{IsFindings}
+use Rattle.s66_answer.specs.{Status, Done, Denied, Listed}
 
 -- denied if some line is refused, done if nothing is stated
 abbrev pub lint_status : (refused : Bool) (text : List ℕ) → Status

@@ -1,11 +1,8 @@
 -- To be believed: what is written of a source's blocks as they were written, one after the other, and how it ends.
 use Rattle.std.specs.Prelude.{ℕ, ◌+◌, ◌≡◌, List, [], ◌∷◌, ◌++◌, Option, Ok}
-use Rattle.s66_line.specs.Blocks.{Block}
-use Rattle.s66_source.specs.LeftAlone.{Reading}
-use Rattle.s66_source.specs.Source.{source_of}
-use Rattle.s66_answer.specs.Shown.{before, shown}
-use Rattle.s66_answer.specs.declared.outcome.Status.{Status}
-use Rattle.s66_answer.specs.declared.outcome.Status.TheVariants.{Done}
+use Rattle.s66_line.specs.{Block}
+use Rattle.s66_source.specs.{Reading, source_of}
+use Rattle.s66_answer.specs.{before, shown, Status, Done}
 
 -- by the lines of the n-th block, from 1: those of these blocks, before which n blocks come
 abbrev pub lines_of_blocks : (ℕ → Block → List ℕ) → ℕ → List Block → List ℕ

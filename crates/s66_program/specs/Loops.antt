@@ -1,11 +1,9 @@
 -- To be believed: the loops of a source that branches behind its blocks close, and how many words each takes.
 use Rattle.std.specs.Prelude.{ℕ, suc, Bool, true, false, not, ◌+◌, ◌-◌, ◌*◌, ◌||◌, ◌==◌, if◌then◌else◌, List, [], ◌∷◌, Option, None, Some, drop, get_or, nat_lt, reverse, slice_get, take}
-use Rattle.s66_isa.specs.Table.{numbers}
-use Rattle.s66_line.specs.Blocks.{Block, instrs_of}
-use Rattle.s66_model.specs.Packing.{fits_at}
-use Rattle.s66_source.specs.Frame.{FramePart, frame_of}
-use Rattle.s66_source.specs.LeftAlone.{Reading}
-use Rattle.s66_source.specs.Printed.{Placed}
+use Rattle.s66_isa.specs.{numbers}
+use Rattle.s66_model.specs.{fits_at}
+use Rattle.s66_line.specs.{Block, instrs_of}
+use Rattle.s66_source.specs.{FramePart, frame_of, Reading, Placed}
 use Rattle.s66_program.specs.Statement.{begins_word, is_end, is_same, name_of, step_of, target_of, passes}
 use Rattle.s66_program.specs.Words.{parcel_after, words_for}
 use Rattle.s66_program.specs.declared.limits.TheConstants.{LOOP_LIMIT}

@@ -1,19 +1,12 @@
 -- To be believed: what `order` writes for a source, and how it ends: for each block that is shown an answer, of which there may be several.
 use Rattle.std.specs.Prelude.{ℕ, suc, ◌≡◌, ◌==◌, ◌&&◌, if◌then◌else◌, Bool, true, List, [], ◌∷◌, ◌++◌, Option, Some, None, replicate}
-use Rattle.s66_isa.specs.declared.profile.Profile.{Profile}
-use Rattle.s66_line.specs.Blocks.{Block}
-use Rattle.s66_source.specs.LeftAlone.{Reading}
-use Rattle.s66_source.specs.Printed.{Placed}
-use Rattle.s66_source.specs.Replaced.{printed_in}
+use Rattle.s66_isa.specs.{Profile}
+use Rattle.s66_model.specs.{source_time}
+use Rattle.s66_command.specs.{OrderStyle, Strategy}
+use Rattle.s66_line.specs.{Block}
+use Rattle.s66_source.specs.{Reading, Placed, printed_in, Own, Usual}
 use Rattle.s66_source.specs.declared.columns.Columns.{Columns}
-use Rattle.s66_source.specs.declared.columns.Columns.TheVariants.{Own, Usual}
-use Rattle.s66_model.specs.Answer.{source_time}
-use Rattle.s66_command.specs.declared.command.OrderStyle.{OrderStyle}
-use Rattle.s66_command.specs.declared.strategy.Strategy.{Strategy}
-use Rattle.s66_answer.specs.Answers.{Answer, problem_of}
-use Rattle.s66_answer.specs.OfAnswers.{IsOfAnswers}
-use Rattle.s66_answer.specs.Shown.{before}
-use Rattle.s66_answer.specs.declared.outcome.Status.{Status}
+use Rattle.s66_answer.specs.{Answer, problem_of, IsOfAnswers, before, Status}
 
 -- HOW A BLOCK IS PRINTED by its answer
 

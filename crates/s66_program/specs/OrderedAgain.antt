@@ -1,14 +1,10 @@
 -- To be believed: how long the blocks take, as written, of what `order` wrote.
 use Rattle.std.specs.Prelude.{ℕ, ◌≡◌, List, ◌++◌, Ok, Option, None, drop, length, map, replicate, take}
-use Rattle.s66_isa.specs.declared.profile.Profile.{Profile}
-use Rattle.s66_line.specs.Blocks.{instrs_of, Block}
-use Rattle.s66_source.specs.LeftAlone.{Reading}
-use Rattle.s66_source.specs.Replaced.{printed_in}
-use Rattle.s66_source.specs.Source.{source_of}
-use Rattle.s66_command.specs.declared.command.OrderStyle.{OrderStyle}
-use Rattle.s66_command.specs.declared.strategy.Strategy.{Strategy}
-use Rattle.s66_answer.specs.Answers.{Answer, AreAnswers}
-use Rattle.s66_answer.specs.Shown.{before, shown}
+use Rattle.s66_isa.specs.{Profile}
+use Rattle.s66_command.specs.{OrderStyle, Strategy}
+use Rattle.s66_line.specs.{instrs_of, Block}
+use Rattle.s66_source.specs.{Reading, printed_in, source_of}
+use Rattle.s66_answer.specs.{Answer, AreAnswers, before, shown}
 use Rattle.s66_program.specs.AsWritten.{as_written, total_time}
 use Rattle.s66_program.specs.OrderText.{all_given, columns_by}
 

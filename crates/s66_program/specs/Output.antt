@@ -1,16 +1,10 @@
 -- To be believed: what each command writes for what it reads, and how it ends.
 use Rattle.std.specs.Prelude.{ℕ, ◌≡◌, Bool, true, false, List, Option, None, Some}
-use Rattle.s66_isa.specs.declared.profile.Profile.{Profile}
-use Rattle.s66_isa.specs.Table.{standard}
-use Rattle.s66_source.specs.LeftAlone.{Reading}
-use Rattle.s66_command.specs.ProfileText.{profile_in_text}
-use Rattle.s66_command.specs.declared.command.Command.{Command}
-use Rattle.s66_command.specs.declared.command.Asked.{Asked}
-use Rattle.s66_command.specs.declared.command.Asked.TheVariants.{Time, Deps, Chart, Why, Page, Pairs, Json, Order, Prove, Check, Lint, Sum, Compare, Guard}
-use Rattle.s66_command.specs.CommandParts.{reads_cut, profile_text, reads_of}
-use Rattle.s66_command.specs.declared.command.Reads.{Reads}
-use Rattle.s66_command.specs.declared.command.Reads.TheVariants.{Source}
-use Rattle.s66_answer.specs.declared.outcome.Status.{Status}
+use Rattle.s66_isa.specs.{Profile, standard}
+use Rattle.s66_command.specs.{profile_in_text, Command, Asked, Time, Deps, Chart, Why, Page, Pairs, Json, Order, Prove, Check, Lint, Sum, Compare, Guard, reads_cut, profile_text, reads_of, Reads}
+use Rattle.s66_command.specs.{Source}
+use Rattle.s66_source.specs.{Reading}
+use Rattle.s66_answer.specs.{Status}
 use Rattle.s66_program.specs.TimeText.{IsTimeOutput}
 use Rattle.s66_program.specs.DepsText.{IsDepsOutput}
 use Rattle.s66_program.specs.ChartText.{IsChartOutput}

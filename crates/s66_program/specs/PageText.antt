@@ -1,17 +1,13 @@
 -- To be believed: what `page` writes for a source, and how it ends: a page that shows each block in its source order and by an answer of a search of its orders, and why no order is faster than a best one.
 use Rattle.std.specs.Prelude.{ℕ, ◌+◌, ◌≡◌, List, [], ◌∷◌, Option}
-use Rattle.s66_isa.specs.declared.profile.Profile.{Profile}
-use Rattle.s66_line.specs.Blocks.{instrs_of, Block}
-use Rattle.s66_source.specs.LeftAlone.{Reading}
-use Rattle.s66_model.specs.declared.rule.Rule.{Rule}
-use Rattle.s66_command.specs.declared.strategy.Strategy.{Strategy}
+use Rattle.s66_isa.specs.{Profile}
+use Rattle.s66_model.specs.{Rule}
+use Rattle.s66_command.specs.{Strategy}
+use Rattle.s66_line.specs.{instrs_of, Block}
+use Rattle.s66_source.specs.{Reading}
+use Rattle.s66_views.specs.{FoundOrder, page_text}
+use Rattle.s66_answer.specs.{Answer, Status, IsOfAnswers, before}
 use Rattle.s66_program.specs.Entries.{entries_of, entry_at}
-use Rattle.s66_views.specs.FoundOrders.{FoundOrder}
-use Rattle.s66_views.specs.Page.{page_text}
-use Rattle.s66_answer.specs.Answers.{Answer}
-use Rattle.s66_answer.specs.declared.outcome.Status.{Status}
-use Rattle.s66_answer.specs.OfAnswers.{IsOfAnswers}
-use Rattle.s66_answer.specs.Shown.{before}
 use Rattle.s66_program.specs.BestReasons.{best_reasons}
 
 -- what a page shows of an answer to a block, which is entered by this name: its order, its bound, and why no order is faster if it is best

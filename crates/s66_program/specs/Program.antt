@@ -1,13 +1,12 @@
 -- To be believed: what the program does with its words, over a reader, a writer, and a writer for what goes wrong.
 use Rattle.std.specs.Prelude.{◌≡◌, ◌⊎◌, ℕ, List, Result}
-use Rattle.s66_device.specs.Devices.{Reader, Writer}
-use Rattle.s66_command.specs.declared.command.Command.{Command}
+use Rattle.s66_command.specs.{Command, Asks, Refuses, Text}
+use Rattle.s66_command.specs.declared.usage.Usage.{Usage}
+use Rattle.s66_device.specs.{Reader, Writer}
 use Rattle.s66_program.specs.declared.fault.Fault.{Fault}
 use Rattle.s66_program.specs.declared.remark.Ended.{Ended}
-use Rattle.s66_command.specs.declared.usage.Usage.{Usage}
 use Rattle.s66_program.specs.Ends.{EndsBy, ShowsUsage}
 use Rattle.s66_program.specs.Run.{IsOutcome}
-use Rattle.s66_command.specs.Usage.{Asks, Refuses, Text}
 
 -- the words give a command, which was run, and standard error gets what is told at its end
 abbrev pub RunsCommand : List Text → Reader → Reader → Writer → Writer → Writer → Writer → ℕ → Type 0

@@ -1,14 +1,12 @@
 -- To be believed: what `prove` writes for a source, and how it ends: for each block the document of an answer, of which there may be several.
 use Rattle.std.specs.Prelude.{ℕ, ◌≡◌, List, [], ◌∷◌, Option}
-use Rattle.s66_isa.specs.declared.profile.Profile.{Profile}
-use Rattle.s66_line.specs.Blocks.{Block}
-use Rattle.s66_source.specs.LeftAlone.{Reading}
-use Rattle.s66_model.specs.declared.rule.Rule.{Rule}
-use Rattle.s66_cert.specs.Documents.{Document, document_text, documents_text}
-use Rattle.s66_command.specs.declared.strategy.Strategy.{Strategy}
-use Rattle.s66_answer.specs.declared.outcome.Status.{Status}
-use Rattle.s66_answer.specs.Answers.{Answer, document_under}
-use Rattle.s66_answer.specs.OfAnswers.{IsOfAnswers}
+use Rattle.s66_isa.specs.{Profile}
+use Rattle.s66_model.specs.{Rule}
+use Rattle.s66_command.specs.{Strategy}
+use Rattle.s66_line.specs.{Block}
+use Rattle.s66_source.specs.{Reading}
+use Rattle.s66_cert.specs.{Document, document_text, documents_text}
+use Rattle.s66_answer.specs.{Status, Answer, document_under, IsOfAnswers}
 
 abbrev pub all_documents : Rule → Profile → List Block → List Answer → List Document
 all_documents rule p (block ∷ blocks) (a ∷ answers) = document_under rule p block a ∷ all_documents rule p blocks answers

@@ -1,5 +1,5 @@
 -- Used by contracts: why reading to the end fails.
-use Rattle.s66_device.specs.Devices.{Reader}
+use Rattle.s66_device.specs.{Reader}
 use Rattle.s66_program.specs.declared.fault.Fault.{Fault}
 use Rattle.s66_program.specs.declared.fault.Fault.TheVariants as fault
 use Rattle.s66_program.specs.Device.{ReadFails, ReadsSome}

@@ -1,24 +1,12 @@
 -- To be believed: what is told of an input after a success, what standard error gets of that, and the status by it.
 use Rattle.std.specs.Prelude.{ℕ, ◌≡◌, ◌==◌, ◌&&◌, Bool, true, false, if◌then◌else◌, List, [], ◌∷◌, ◌++◌, Option, None, Some, Result, Ok, Err, codes, decimal, length, nat_lt, option_map, unwrap_or}
-use Rattle.std.specs.Option.{is_some}
-use Rattle.s66_device.specs.Devices.{IsUntouched, Writer}
-use Rattle.s66_line.specs.Blocks.{Block}
-use Rattle.s66_line.specs.Fields.{lines_of}
-use Rattle.s66_source.specs.declared.error.SourceError.{SourceError}
-use Rattle.s66_source.specs.Halves.{halves_of}
-use Rattle.s66_source.specs.LeftAlone.{Reading}
-use Rattle.s66_source.specs.Source.{source_of}
-use Rattle.s66_lint.specs.Guarded.{IsGuard}
-use Rattle.s66_lint.specs.Listing.{IsFindings}
-use Rattle.s66_command.specs.declared.command.Command.{Command}
-use Rattle.s66_command.specs.declared.command.Asked.{Asked}
-use Rattle.s66_command.specs.declared.command.Asked.TheVariants.{Guard}
-use Rattle.s66_command.specs.declared.command.Reads.{Reads}
-use Rattle.s66_command.specs.declared.command.Reads.TheVariants.{Documents, Sources}
-use Rattle.s66_command.specs.declared.strategy.Strategy.{Strategy}
-use Rattle.s66_command.specs.CommandParts.{reads_cut, reads_of, strategy_of}
-use Rattle.s66_answer.specs.declared.outcome.Status.{Status}
-use Rattle.s66_answer.specs.declared.outcome.Status.TheVariants.{Bounded, Denied, Done, Listed}
+use Rattle.std.specs.Prelude.{is_some}
+use Rattle.s66_command.specs.{Command, Asked, Guard, Reads, Documents, Sources, Strategy, reads_cut, reads_of, strategy_of}
+use Rattle.s66_device.specs.{IsUntouched, Writer}
+use Rattle.s66_line.specs.{Block, lines_of}
+use Rattle.s66_source.specs.{SourceError, halves_of, Reading, source_of}
+use Rattle.s66_lint.specs.{IsGuard, IsFindings}
+use Rattle.s66_answer.specs.{Status, Bounded, Denied, Done, Listed}
 use Rattle.s66_program.specs.declared.remark.Ended.{Ended}
 use Rattle.s66_program.specs.declared.remark.Missing.{Missing}
 use Rattle.s66_program.specs.declared.remark.Missing.TheVariants as missing

@@ -1,21 +1,11 @@
 -- To be believed: what `order` reports of each block, as one reads it in the bytes of the text.
 use Rattle.std.specs.Prelude.{ℕ, suc, ◌≡◌, ◌<◌, ◌⊎◌, ◌^◌, ◌==◌, ◌||◌, Bool, true, not, if◌then◌else◌, List, [], ◌∷◌, ◌++◌, Option, Some, None, Ok, codes, decimal, length}
-use Rattle.s66_isa.specs.Lists.{every}
-use Rattle.s66_isa.specs.declared.profile.Profile.{Profile}
-use Rattle.s66_line.specs.Blocks.{Block, instrs_of}
-use Rattle.s66_line.specs.Fields.{is_newline}
-use Rattle.s66_model.specs.Answer.{source_time}
-use Rattle.s66_model.specs.BestAndBound.{IsBound}
-use Rattle.s66_model.specs.LegalOrder.{IsLegal}
-use Rattle.s66_model.specs.Timing.{total_of}
-use Rattle.s66_source.specs.Columns.{indented_lines, indents}
-use Rattle.s66_source.specs.LeftAlone.{Reading}
-use Rattle.s66_source.specs.Printed.{notes_text, splits_line, times_text}
-use Rattle.s66_source.specs.Replaced.{replaced}
-use Rattle.s66_source.specs.Source.{Line, classed_lines, source_of}
-use Rattle.s66_command.specs.declared.command.OrderStyle.{OrderStyle}
-use Rattle.s66_answer.specs.Answers.{problem_of}
-use Rattle.s66_answer.specs.Shown.{before}
+use Rattle.s66_isa.specs.{every, Profile}
+use Rattle.s66_model.specs.{source_time, IsBound, IsLegal, total_of}
+use Rattle.s66_command.specs.{OrderStyle}
+use Rattle.s66_line.specs.{Block, instrs_of, is_newline}
+use Rattle.s66_source.specs.{indented_lines, indents, Reading, notes_text, splits_line, times_text, replaced, Line, classed_lines, source_of}
+use Rattle.s66_answer.specs.{problem_of, before}
 use Rattle.s66_program.specs.OrderText.{columns_by}
 
 abbrev pub BeginsWith : (line front : List ℕ) → Type 0

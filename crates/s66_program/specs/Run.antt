@@ -1,16 +1,12 @@
 -- To be believed: what a command leaves of its reader and its writer.
 use Rattle.std.specs.Prelude.{◌≡◌, ◌≢◌, ◌⊎◌, ℕ, true, List, None, Some, Result, Ok, Err, is_ok}
-use Rattle.s66_isa.specs.declared.profile.Profile.{Profile}
-use Rattle.s66_source.specs.declared.error.SourceError.{SourceError}
-use Rattle.s66_source.specs.declared.error.SourceError.TheVariants.{OutOfMemory}
-use Rattle.s66_source.specs.Halves.{Halves, halves_of}
-use Rattle.s66_device.specs.Devices.{IsUntouched, Reader, WriteFails, Writer, Writes}
-use Rattle.s66_source.specs.Source.{source_of}
-use Rattle.s66_cert.specs.Faults.{IsFault}
-use Rattle.s66_command.specs.declared.command.Command.{Command}
-use Rattle.s66_command.specs.declared.command.Reads.TheVariants.{Documents, Sources}
-use Rattle.s66_command.specs.CommandParts.{profile_text, reads_of}
-use Rattle.s66_answer.specs.declared.outcome.Status.{Status}
+use Rattle.s66_isa.specs.{Profile}
+use Rattle.s66_command.specs.{Command, Documents, Sources, profile_text, reads_of}
+use Rattle.s66_device.specs.{IsUntouched, Reader, WriteFails, Writer, Writes}
+use Rattle.s66_source.specs.{SourceError, OutOfMemory, halves_of, source_of}
+use Rattle.s66_source.specs.Halves.{Halves}
+use Rattle.s66_cert.specs.{IsFault}
+use Rattle.s66_answer.specs.{Status}
 use Rattle.s66_program.specs.declared.fault.Fault.{Fault}
 use Rattle.s66_program.specs.declared.fault.Fault.TheVariants as fault
 use Rattle.s66_program.specs.declared.remark.Ended.{Ended}

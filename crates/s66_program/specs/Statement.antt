@@ -1,10 +1,9 @@
 -- To be believed: what the lines beside the blocks of a source are, for who goes through its loops. Lines have no blanks at their end.
 use Rattle.std.specs.Prelude.{ℕ, Bool, true, false, not, ◌&&◌, ◌||◌, ◌==◌, if◌then◌else◌, List, [], ◌∷◌, codes, bytes_eq, length, nat_lt}
 use Rattle.std.specs.Str.{str_eq_ignore_ascii_case}
-use Rattle.s66_isa.specs.Lists.{some_of}
-use Rattle.s66_line.specs.Fields.{location, operand, operation}
-use Rattle.s66_source.specs.Frame.{FramePart}
-use Rattle.s66_source.specs.LeftAlone.{has_operation}
+use Rattle.s66_isa.specs.{some_of}
+use Rattle.s66_line.specs.{location, operand, operation}
+use Rattle.s66_source.specs.{FramePart, has_operation}
 use Rattle.s66_program.specs.declared.statement.Step.{Step}
 use Rattle.s66_program.specs.declared.statement.Step.TheVariants.{Nothing, Word, Branch, Jump, End}
 

@@ -3,24 +3,16 @@
 -- `--words` the words that a block takes, or the loop that a branch behind it closes. A row ends with the name by which its block is entered. Before them stands what a profile has
 -- otherwise than the standard one.
 use Rattle.std.specs.Prelude.{ℕ, ◌+◌, ◌-◌, ◌≡◌, ◌≤◌, ◌<◌, ◌⊎◌, ◌==◌, if◌then◌else◌, Bool, List, [], ◌∷◌, ◌++◌, Option, None, Some, IsPermutation, codes, decimal, length, slice_index_or, unwrap_or}
-use Rattle.s66_isa.specs.Lists.{tally, weigh}
-use Rattle.s66_isa.specs.Table.{numbers}
-use Rattle.s66_isa.specs.declared.profile.Profile.{Profile}
-use Rattle.s66_line.specs.Blocks.{instrs_of, line_of, Block}
-use Rattle.s66_source.specs.Printed.{Placed}
-use Rattle.s66_source.specs.LeftAlone.{Reading}
-use Rattle.s66_command.specs.declared.command.SumStyle.{SumStyle}
-use Rattle.s66_command.specs.declared.strategy.Strategy.{Strategy}
-use Rattle.s66_answer.specs.OfAnswers.{IsOfAnswers}
-use Rattle.s66_answer.specs.Shown.{before, shown}
-use Rattle.s66_answer.specs.declared.outcome.Status.{Status}
+use Rattle.s66_isa.specs.{tally, weigh, numbers, Profile}
+use Rattle.s66_command.specs.{SumStyle, Strategy, changes, changes_text, Change}
+use Rattle.s66_line.specs.{instrs_of, line_of, Block}
+use Rattle.s66_source.specs.{Placed, Reading}
+use Rattle.s66_answer.specs.{IsOfAnswers, before, shown, Status}
 use Rattle.s66_program.specs.Moved.{moved}
 use Rattle.s66_program.specs.Entries.{entries_of, entry_at}
 use Rattle.s66_program.specs.Loops.{Orders, loop_at, loops_of}
 use Rattle.s66_program.specs.Words.{words_of}
 use Rattle.s66_program.specs.declared.loops.Loop.{Loop}
-use Rattle.s66_command.specs.Changes.{changes, changes_text}
-use Rattle.s66_command.specs.declared.changes.Change.{Change}
 use Rattle.s66_program.specs.OrderText.{all_placed}
 use Rattle.s66_program.specs.declared.sum_text.LineEnd.{LineEnd}
 use Rattle.s66_program.specs.declared.sum_text.Row.{Row}

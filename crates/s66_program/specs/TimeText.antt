@@ -1,16 +1,13 @@
 -- To be believed: what `time` writes of a source, and how it ends: for each block a line and, with its trace, a line for each
 -- instruction.
 use Rattle.std.specs.Prelude.{ℕ, ◌+◌, Bool, if◌then◌else◌, List, [], ◌∷◌, ◌++◌, length, map, Option, codes, decimal}
-use Rattle.s66_isa.specs.declared.instr.Instr.{Instr}
-use Rattle.s66_isa.specs.declared.profile.Profile.{Profile}
-use Rattle.s66_isa.specs.Lists.{weigh}
-use Rattle.s66_isa.specs.Table.{parcels_of, numbers}
-use Rattle.s66_model.specs.Packing.{fillers, len_at}
-use Rattle.s66_line.specs.Blocks.{instrs_of, Block}
-use Rattle.s66_model.specs.Timing.{latest_result}
-use Rattle.s66_time.specs.TimedOrder.{TimedOrder, point_at}
-use Rattle.s66_source.specs.LeftAlone.{Reading}
-use Rattle.s66_answer.specs.declared.outcome.Status.{Status}
+use Rattle.s66_isa.specs.{Instr, Profile, weigh, parcels_of, numbers}
+use Rattle.s66_model.specs.{fillers, len_at, latest_result}
+use Rattle.s66_line.specs.{instrs_of, Block}
+use Rattle.s66_source.specs.{Reading}
+use Rattle.s66_time.specs.TimedOrder.{TimedOrder}
+use Rattle.s66_time.specs.{point_at}
+use Rattle.s66_answer.specs.{Status}
 use Rattle.s66_program.specs.AsWritten.{as_written, total_time}
 use Rattle.s66_program.specs.BlockHead.{block_head}
 use Rattle.s66_program.specs.Listing.{IsListing}

@@ -1,16 +1,13 @@
 -- To be believed: what `why` writes of a source, and how it ends: for each block a line as that of `chart`, and what its instructions wait for, as the block was written or with `--order` in the order of an answer of a search, and below a best order why none is faster; with `--text` the text of each instruction stands beside its number.
 use Rattle.std.specs.Prelude.{ℕ, Bool, ◌≡◌, List, ◌++◌, Option, None, Some}
-use Rattle.s66_isa.specs.declared.profile.Profile.{Profile}
-use Rattle.s66_line.specs.Blocks.{instrs_of, Block}
-use Rattle.s66_source.specs.LeftAlone.{Reading}
-use Rattle.s66_model.specs.declared.rule.Rule.{Rule}
-use Rattle.s66_command.specs.declared.strategy.Strategy.{Strategy}
+use Rattle.s66_isa.specs.{Profile}
+use Rattle.s66_model.specs.{Rule}
+use Rattle.s66_command.specs.{Strategy}
+use Rattle.s66_line.specs.{instrs_of, Block}
+use Rattle.s66_source.specs.{Reading}
 use Rattle.s66_time.specs.TimedOrder.{TimedOrder}
-use Rattle.s66_why.specs.Why.{why_text}
-use Rattle.s66_answer.specs.Answers.{Answer, problem_of}
-use Rattle.s66_answer.specs.declared.outcome.Status.{Status}
-use Rattle.s66_answer.specs.OfAnswers.{IsOfAnswers, all_parts}
-use Rattle.s66_answer.specs.Shown.{before}
+use Rattle.s66_why.specs.{why_text}
+use Rattle.s66_answer.specs.{Answer, problem_of, Status, IsOfAnswers, all_parts, before}
 use Rattle.s66_program.specs.BestReasons.{best_reasons}
 use Rattle.s66_program.specs.AsWritten.{as_written}
 use Rattle.s66_program.specs.BlockHead.{timed_line}

@@ -1,8 +1,7 @@
 -- To be believed: how many words of 60 bits an order of a block takes, from the first parcel of the block on.
 use Rattle.std.specs.Prelude.{ℕ, ◌+◌, ◌/◌, List, length, map}
-use Rattle.s66_isa.specs.declared.instr.Instr.{Instr}
-use Rattle.s66_isa.specs.Lists.{weigh}
-use Rattle.s66_model.specs.Packing.{fillers, len_at}
+use Rattle.s66_isa.specs.{Instr, weigh}
+use Rattle.s66_model.specs.{fillers, len_at}
 
 -- the parcel behind an order that begins with a parcel: the parcels of its instructions, and the NOs that fill up words
 abbrev pub parcel_after : List Instr → ℕ → List ℕ → ℕ

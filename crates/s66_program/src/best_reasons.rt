@@ -1,8 +1,8 @@
 //! The sentences below a best order that say why no order is faster, for `why` and `page`.
 
 ghost use Rattle.std.specs.Prelude.{◌≡◌, ◌++◌, OnOk};
-ghost use Rattle.s66_answer.specs.Stored.{IsFor, answer_in};
-ghost use Rattle.s66_program.specs.BestReasons.{best_reasons};
+ghost use Rattle.s66_answer.specs.{IsFor, answer_in};
+ghost use Rattle.s66_program.specs.{best_reasons};
 
 use s66_answer::BlockAnswer;
 use s66_reasons::push_reasons;

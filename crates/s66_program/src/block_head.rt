@@ -1,7 +1,7 @@
 //! How the first line of a block begins, in whatever subcommand.
 
 ghost use Rattle.std.specs.Prelude.{◌≡◌, ◌++◌, OnOk};
-ghost use Rattle.s66_program.specs.BlockHead.{block_head, timed_line};
+ghost use Rattle.s66_program.specs.{block_head, timed_line};
 
 use s66_device::push_field;
 use s66_line::Block;

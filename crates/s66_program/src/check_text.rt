@@ -1,10 +1,9 @@
 //! What `check` writes: a line with the verdict on each document, and sentences with `--text`.
 
 ghost use Rattle.std.specs.Prelude.{◌≡◌, ◌++◌, map, IfOk, OnOk};
-ghost use Rattle.s66_cert.specs.DocumentParts.{document_of};
-ghost use Rattle.s66_cert.specs.Reads.{RefusesText};
-ghost use Rattle.s66_program.specs.CheckText.{IsCheckOutput, is_yes, reasons_by, verdict_line, verdict_lines, verdict_text, verdicts_status};
-ghost use Rattle.s66_checker.specs.Verdict.{verdict as verdict_of};
+ghost use Rattle.s66_cert.specs.{document_of, RefusesText};
+ghost use Rattle.s66_checker.specs.{verdict as verdict_of};
+ghost use Rattle.s66_program.specs.{IsCheckOutput, is_yes, reasons_by, verdict_line, verdict_lines, verdict_text, verdicts_status};
 
 use s66_answer::{Observer, Output, Status};
 use s66_cert::{CertError, Document, read};

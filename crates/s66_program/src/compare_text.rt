@@ -1,9 +1,8 @@
 //! What `compare` and `page --compare` write of the two sources of an input.
 
 ghost use Rattle.std.specs.Prelude.{◌≡◌, if◌then◌else◌, Bool, IfOk, IfErr};
-ghost use Rattle.s66_answer.specs.declared.outcome.Status.TheVariants.{Denied, Done};
-ghost use Rattle.s66_program.specs.Comparing.{IsCompareRefusal, IsNewRefusal};
-ghost use Rattle.s66_program.specs.CompareText.{IsViewOf, IsViewOutput};
+ghost use Rattle.s66_answer.specs.{Denied, Done};
+ghost use Rattle.s66_program.specs.{IsCompareRefusal, IsNewRefusal, IsViewOf, IsViewOutput};
 
 use crate::fault::Fault;
 use s66_answer::{Output, Status};

@@ -1,14 +1,10 @@
 //! What `deps` writes: on which instructions each depends, and with `--text` why.
 
 ghost use Rattle.std.specs.Prelude.{ℕ, List, ◌≡◌, ◌≤◌, ◌++◌, flat_map, length, IfOk, OnOk};
-ghost use Rattle.s66_isa.specs.declared.limits.TheConstants.{BLOCK_LIMIT};
-ghost use Rattle.s66_isa.specs.Lists.{after_blanks, weigh};
-ghost use Rattle.s66_isa.specs.Table.{instr_at, numbers};
-ghost use Rattle.s66_line.specs.Blocks.{instrs_of};
-ghost use Rattle.s66_model.specs.Dependence.{all_needs, needs};
-ghost use Rattle.s66_isa.specs.Members.{numbers_in};
-ghost use Rattle.s66_why.specs.Hazards.{hazards, hazards_text};
-ghost use Rattle.s66_why.specs.Numbers.{IsOf};
+ghost use Rattle.s66_isa.specs.{BLOCK_LIMIT, after_blanks, weigh, instr_at, numbers, numbers_in};
+ghost use Rattle.s66_model.specs.{all_needs, needs};
+ghost use Rattle.s66_line.specs.{instrs_of};
+ghost use Rattle.s66_why.specs.{hazards, hazards_text, IsOf};
 ghost use Rattle.s66_program.specs.DepsText.{IsDepsOutput, dependences_in, deps_line, named, needs_line, needs_lines, deps_lines, pair_line, pair_lines};
 
 use crate::block_head::push_block_head;

@@ -1,7 +1,7 @@
 //! The name by which a block is entered: its label, or that of the line before it.
 
-ghost use Rattle.std.specs.Prelude.{◌≡◌, [], IfOk};
-ghost use Rattle.s66_program.specs.Entries.{entries_from, entries_of, entry_at, last_name, or_last};
+ghost use Rattle.std.specs.Prelude.{◌≡◌, [], IfOk, ℕ, List};
+ghost use Rattle.s66_program.specs.{entries_from, entries_of, entry_at, last_name, or_last};
 
 use crate::statement::{has_operation, name_in};
 use s66_line::fields_of;
@@ -16,8 +16,6 @@ pub(crate) struct EntryPoint<'a> {
 }
 
 impl<'a> Model for EntryPoint<'a> {
-    ghost use Rattle.std.specs.Prelude.{ℕ, List};
-
     ghost Value = { List ℕ };
 
     ghost view = { λ e. e.name.now };

@@ -1,8 +1,8 @@
 //! What is told after a success, worked: contracts of a function that does nothing.
 
 ghost use Rattle.std.specs.Prelude.{true, false, [], ◌≡◌, ◌++◌, codes};
-ghost use Rattle.s66_answer.specs.declared.outcome.Status.TheVariants.{Bounded, Done};
-ghost use Rattle.s66_program.specs.Remarks.{bounded_line, remark_text};
+ghost use Rattle.s66_answer.specs.{Bounded, Done};
+ghost use Rattle.s66_program.specs.{bounded_line, remark_text};
 ghost use Rattle.s66_program.specs.declared.remark.Missing.TheVariants as missing;
 
 /// What is told of an input that lacks something or nothing, by how many lines `lint` lists, and of one with switches around regions.

@@ -1,7 +1,7 @@
 //! Why a command failed (`Fault`): the line that standard error gets, and the status.
 
 ghost use Rattle.std.specs.Prelude.{◌≡◌, ◌++◌, ◌<◌, ◌≤◌, codes, decimal, length};
-ghost use Rattle.s66_device.specs.declared.limits.TheConstants.{FAULT_ROOM};
+ghost use Rattle.s66_device.specs.{FAULT_ROOM};
 ghost use Rattle.s66_program.specs.declared.fault.Fault.TheVariants.{Memory};
 ghost use Rattle.s66_program.specs.Fault.{document_fault, new_refusal_line, new_source_fault, profile_fault, source_fault};
 
@@ -113,8 +113,8 @@ fn new_line(refusal: &SourceError) -> ArrayString<FAULT_ROOM>
 
 impl Fault {
     ghost use Rattle.std.specs.Prelude.{◌≡◌, ◌<◌, length};
-    ghost use Rattle.s66_device.specs.declared.limits.TheConstants.{FAULT_ROOM};
-    ghost use Rattle.s66_program.specs.Fault.{fault_code, fault_line, new_source_fault};
+    ghost use Rattle.s66_device.specs.{FAULT_ROOM};
+    ghost use Rattle.s66_program.specs.{fault_code, fault_line, new_source_fault};
 
     /// Of a new source that was refused for this.
     pub fn of_new_source(refusal: SourceError) -> Fault

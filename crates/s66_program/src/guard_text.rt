@@ -1,13 +1,11 @@
 //! What `guard` writes: the source with switches, and what is told of them.
 
 ghost use Rattle.std.specs.Prelude.{◌≡◌, true, IfErr, IfOk};
-ghost use Rattle.s66_isa.specs.declared.profile.Profile.{Profile};
-ghost use Rattle.s66_command.specs.declared.command.Asked.TheVariants.{Guard};
-ghost use Rattle.s66_answer.specs.declared.outcome.Status.TheVariants.{Done};
+ghost use Rattle.s66_isa.specs.{Profile};
+ghost use Rattle.s66_command.specs.{Guard};
+ghost use Rattle.s66_answer.specs.{Done};
 ghost use Rattle.s66_program.specs.declared.remark.Missing.TheVariants.{Nothing};
-ghost use Rattle.s66_program.specs.Output.{IsOutput};
-ghost use Rattle.s66_program.specs.Remarks.{IsRemark};
-ghost use Rattle.s66_program.specs.Run.{IsRefusal};
+ghost use Rattle.s66_program.specs.{IsOutput, IsRemark, IsRefusal};
 
 use crate::fault::Fault;
 use crate::remark::{Finished, Missing, Remark};

@@ -1,7 +1,7 @@
 //! The second line of a refusal, which names the way out.
 
 ghost use Rattle.std.specs.Prelude.{◌≡◌};
-ghost use Rattle.s66_program.specs.Hints.{source_way_out, way_out};
+ghost use Rattle.s66_program.specs.{source_way_out, way_out};
 
 use crate::fault::Fault;
 use s66_cert::CertError;

@@ -1,8 +1,8 @@
 //! What `json` writes: a line for each block, as written or also in the order found.
 
 ghost use Rattle.std.specs.Prelude.{◌≡◌, ◌++◌, IfOk, OnOk};
-ghost use Rattle.s66_line.specs.Blocks.{instrs_of};
-ghost use Rattle.s66_views.specs.Json.{found_data, json_line};
+ghost use Rattle.s66_line.specs.{instrs_of};
+ghost use Rattle.s66_views.specs.{found_data, json_line};
 ghost use Rattle.s66_program.specs.AsWritten.{as_written};
 ghost use Rattle.s66_program.specs.JsonText.{IsJsonOutput, answer_line, written_line};
 

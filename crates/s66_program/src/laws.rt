@@ -1,40 +1,17 @@
 //! What becomes of the output of `order` and `prove` that is read again: contracts of functions that do nothing.
 
 ghost use Rattle.std.specs.Prelude.{ℕ, Bool, false, List, [], ◌∷◌, ◌++◌, length, map, Ok, Err, Option, ◌*◌, ◌≡◌, ◌≤◌, ◌<◌, codes, Some};
-ghost use Rattle.s66_isa.specs.declared.profile.Profile.{Profile};
-ghost use Rattle.s66_isa.specs.Lists.{Among};
-ghost use Rattle.s66_isa.specs.Table.{standard};
-ghost use Rattle.s66_source.specs.LeftAlone.{Reading, plain};
-ghost use Rattle.s66_source.specs.Replaced.{printed_in};
-ghost use Rattle.s66_source.specs.Printed.{Placed};
-ghost use Rattle.s66_source.specs.declared.columns.Columns.TheVariants.{Usual};
-ghost use Rattle.s66_line.specs.Blocks.{Block, instrs_of};
-ghost use Rattle.s66_source.specs.Source.{source_of};
-ghost use Rattle.s66_source.specs.declared.error.SourceError.{SourceError};
-ghost use Rattle.s66_isa.specs.declared.limits.TheConstants.{BLOCK_LIMIT};
-ghost use Rattle.s66_command.specs.declared.command.OrderStyle.{OrderStyle};
-ghost use Rattle.s66_command.specs.declared.strategy.Strategy.{Strategy};
-ghost use Rattle.s66_model.specs.declared.rule.Rule.TheVariants.{NoneNamed};
-ghost use Rattle.s66_model.specs.BestAndBound.{IsBound};
-ghost use Rattle.s66_model.specs.LegalOrder.{IsLegal};
-ghost use Rattle.s66_model.specs.Timing.{Problem, total_of};
-ghost use Rattle.s66_cert.specs.Documents.{Document, IsDocument, IsText};
-ghost use Rattle.s66_cert.specs.declared.limits.TheConstants.{TIME_LIMIT};
-ghost use Rattle.s66_cert.specs.Examples.{one_load, with_times};
-ghost use Rattle.s66_checker.specs.declared.verdict.Verdict.TheVariants.{Yes};
-ghost use Rattle.s66_checker.specs.TrueClaims.{IsTrueClaim};
+ghost use Rattle.s66_isa.specs.{Profile, Among, standard, BLOCK_LIMIT};
+ghost use Rattle.s66_model.specs.{NoneNamed, IsBound, IsLegal, Problem, total_of};
+ghost use Rattle.s66_command.specs.{OrderStyle, Strategy};
+ghost use Rattle.s66_line.specs.{Block, instrs_of};
+ghost use Rattle.s66_source.specs.{Reading, plain, printed_in, Placed, Usual, source_of, SourceError};
+ghost use Rattle.s66_cert.specs.{Document, IsDocument, IsText, TIME_LIMIT, one_load, with_times};
+ghost use Rattle.s66_checker.specs.{Yes, IsTrueClaim, verdict};
 ghost use Rattle.s66_checker.specs.Verdict as checker;
-ghost use Rattle.s66_checker.specs.Verdict.{verdict};
-ghost use Rattle.s66_answer.specs.declared.outcome.Status.{Status};
-ghost use Rattle.s66_answer.specs.declared.outcome.Status.TheVariants.{Done, Denied};
-ghost use Rattle.s66_answer.specs.Answers.{Answer, IsAnswer, document_under, problem_of};
-ghost use Rattle.s66_program.specs.declared.limits.TheConstants.{SOURCE_FRONT};
-ghost use Rattle.s66_program.specs.CheckText.{IsCheckOutput, verdict_lines, verdicts_status};
-ghost use Rattle.s66_program.specs.CheckedAnswers.{AreYesLines, yes_lines};
-ghost use Rattle.s66_program.specs.Examples.{blocks_in, one_load_answer, one_load_ordered, one_load_source};
-ghost use Rattle.s66_program.specs.OrderText.{IsOrdered, all_placed};
-ghost use Rattle.s66_program.specs.OrderedAgain.{TakePrintedTimes, written_time};
-ghost use Rattle.s66_program.specs.ProveText.{IsProveOutput, all_documents};
+ghost use Rattle.s66_answer.specs.{Status, Done, Denied, Answer, IsAnswer, document_under, problem_of};
+ghost use Rattle.s66_program.specs.{SOURCE_FRONT, IsCheckOutput, verdict_lines, verdicts_status, AreYesLines, yes_lines, blocks_in, one_load_answer, one_load_ordered, one_load_source, IsOrdered};
+ghost use Rattle.s66_program.specs.{all_placed, TakePrintedTimes, written_time, IsProveOutput, all_documents};
 
 /// A text of at least `SOURCE_FRONT` bytes is refused as a source, for the same whatever follows.
 pub fn front_law()

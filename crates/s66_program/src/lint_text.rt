@@ -1,8 +1,8 @@
 //! What `lint` writes of any text, and its status: whether a line is refused, or findings are listed.
 
 ghost use Rattle.std.specs.Prelude.{◌≡◌, IfOk, is_err};
-ghost use Rattle.s66_source.specs.Source.{source_of};
-ghost use Rattle.s66_program.specs.LintText.{IsLintOutput, lint_status};
+ghost use Rattle.s66_source.specs.{source_of};
+ghost use Rattle.s66_program.specs.{IsLintOutput, lint_status};
 
 use s66_answer::{Output, Status};
 use s66_lint::findings_in;

@@ -2,8 +2,8 @@
 //! `json` share.
 
 ghost use Rattle.std.specs.Prelude.{◌≡◌, ◌<◌, ◌^◌, ◌++◌, ℕ, List, OnOk, IfOk};
-ghost use Rattle.s66_isa.specs.declared.profile.Profile.{Profile as ProfileOf};
-ghost use Rattle.s66_line.specs.Blocks.{Block as BlockOf};
+ghost use Rattle.s66_isa.specs.{Profile as ProfileOf};
+ghost use Rattle.s66_line.specs.{Block as BlockOf};
 ghost use Rattle.s66_program.specs.Listing.{IsListing, lines_of_blocks};
 
 use s66_answer::{Output, Status, blocks_before, shown};

@@ -1,9 +1,7 @@
 //! Worked examples: what lines are for a loop, and by what name blocks are entered. The functions do nothing.
 
 ghost use Rattle.std.specs.Prelude.{[], ◌∷◌, ◌≡◌, true, false, codes};
-ghost use Rattle.s66_program.specs.Entries.{entries_from};
-ghost use Rattle.s66_program.specs.Statement.{step_of, target_in};
-ghost use Rattle.s66_program.specs.declared.statement.Step.TheVariants.{Branch, End, Jump, Nothing, Word};
+ghost use Rattle.s66_program.specs.{entries_from, step_of, target_in, Branch, End, Jump, Nothing, Word};
 
 /// What lines are, and where they go.
 pub fn statement_examples()

@@ -1,10 +1,8 @@
 //! The loops that branches behind blocks close, and how many words of 60 bits each takes before and after, for `sum --words`.
 
 ghost use Rattle.std.specs.Prelude.{◌≡◌, ◌≤◌, ◌<◌, ◌+◌, ◌^◌, IfOk, IfSome, None, drop, length, reverse};
-ghost use Rattle.s66_source.specs.Printed.{ArePlaced};
-ghost use Rattle.s66_program.specs.Loops.{begin_at, counted, loop_at, loops_of, or_else, start_before, start_of, step_after, word_from};
-ghost use Rattle.s66_program.specs.declared.statement.Step.TheVariants.{Branch};
-ghost use Rattle.s66_program.specs.declared.limits.TheConstants.{LOOP_LIMIT};
+ghost use Rattle.s66_source.specs.{ArePlaced};
+ghost use Rattle.s66_program.specs.{begin_at, counted, loop_at, loops_of, or_else, start_before, start_of, step_after, word_from, Branch, LOOP_LIMIT};
 
 use crate::limits::LOOP_LIMIT;
 use crate::statement::{Step, begins_word, is_same, name_of, passes, step_of, target_of};
@@ -155,10 +153,8 @@ fn or_else(closed: Option<Loop>, other: Option<Loop>) -> Option<Loop>
 
 impl<'s, 'a> Orders<'s, 'a> {
     ghost use Rattle.std.specs.Prelude.{◌≡◌, ◌≤◌, ◌<◌, ◌+◌, ◌*◌, ◌^◌, IfOk, None, drop, length, slice_get};
-    ghost use Rattle.s66_source.specs.Printed.{ArePlaced};
-    ghost use Rattle.s66_program.specs.Loops.{block_after, loop_behind, loop_closed, loop_through, loops_from, parcels_through, part_after};
-    ghost use Rattle.s66_program.specs.declared.statement.Step.TheVariants.{Branch};
-    ghost use Rattle.s66_program.specs.declared.limits.TheConstants.{LOOP_LIMIT};
+    ghost use Rattle.s66_source.specs.{ArePlaced};
+    ghost use Rattle.s66_program.specs.{block_after, loop_behind, loop_closed, loop_through, loops_from, parcels_through, part_after, Branch, LOOP_LIMIT};
 
     /// The parcel behind the block at a place that begins with this one.
     fn block_after(&self, as_found: bool, parcel: u32, place: usize) -> u32

@@ -1,19 +1,14 @@
 //! What one reads in the bytes of what `order` wrote: contracts of functions that do nothing.
 
 ghost use Rattle.std.specs.Prelude.{ℕ, Bool, true, List, Ok, Option, Some, ◌≡◌};
-ghost use Rattle.s66_command.specs.declared.command.OrderStyle.{OrderStyle};
-ghost use Rattle.s66_command.specs.declared.strategy.Strategy.{Strategy};
-ghost use Rattle.s66_compare.specs.Compared.{IsCompared};
-ghost use Rattle.s66_isa.specs.declared.profile.Profile.{Profile};
-ghost use Rattle.s66_line.specs.Blocks.{Block};
-ghost use Rattle.s66_answer.specs.declared.outcome.Status.{Status};
-ghost use Rattle.s66_answer.specs.declared.outcome.Status.TheVariants.{Done};
-ghost use Rattle.s66_program.specs.CompareText.{IsCompareOutput};
-ghost use Rattle.s66_source.specs.Halves.{Halves, halves_of};
-ghost use Rattle.s66_source.specs.LeftAlone.{Reading};
-ghost use Rattle.s66_source.specs.Source.{source_of};
-ghost use Rattle.s66_program.specs.OrderText.{IsOrdered};
-ghost use Rattle.s66_program.specs.Reports.{ReportsBlocks};
+ghost use Rattle.s66_isa.specs.{Profile};
+ghost use Rattle.s66_command.specs.{OrderStyle, Strategy};
+ghost use Rattle.s66_line.specs.{Block};
+ghost use Rattle.s66_source.specs.Halves.{Halves};
+ghost use Rattle.s66_source.specs.{halves_of, Reading, source_of};
+ghost use Rattle.s66_compare.specs.{IsCompared};
+ghost use Rattle.s66_answer.specs.{Status, Done};
+ghost use Rattle.s66_program.specs.{IsCompareOutput, IsOrdered, ReportsBlocks};
 
 /// What `order` wrote for a source has in the place of each block that is asked for and doesn't stand its instructions in a legal order,
 /// after a line that tells what this order takes, unless it is quiet; each other line is as it was read. If the line ends in BEST, no legal

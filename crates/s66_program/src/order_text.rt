@@ -1,10 +1,10 @@
 //! What `order` writes: the source with its blocks in the best orders found, and which of them stand.
 
 ghost use Rattle.std.specs.Prelude.{◌≡◌, ◌++◌, None, IfOk, replicate};
-ghost use Rattle.s66_isa.specs.declared.profile.Profile.{Profile as ProfileOf};
-ghost use Rattle.s66_line.specs.Blocks.{Block as BlockOf};
-ghost use Rattle.s66_command.specs.declared.strategy.Strategy.{Strategy as StrategyOf};
-ghost use Rattle.s66_answer.specs.Stored.{IsFor, answer_in};
+ghost use Rattle.s66_isa.specs.{Profile as ProfileOf};
+ghost use Rattle.s66_command.specs.{Strategy as StrategyOf};
+ghost use Rattle.s66_line.specs.{Block as BlockOf};
+ghost use Rattle.s66_answer.specs.{IsFor, answer_in};
 ghost use Rattle.s66_program.specs.OrderText.{IsOrdered, columns_by, given_by, given_part, placed_by, placed_part, rise_from};
 
 use arrayvec::ArrayVec;

@@ -1,12 +1,9 @@
 //! Which text a command writes for what it reads (`output_for`): one case for each subcommand.
 
 ghost use Rattle.std.specs.Prelude.{◌≡◌, false, true, IfOk, IfErr};
-ghost use Rattle.s66_command.specs.CommandParts.{reads_cut, reads_of};
+ghost use Rattle.s66_command.specs.{reads_cut, reads_of};
 ghost use Rattle.s66_command.specs.declared.command.Reads.TheVariants as reads;
-ghost use Rattle.s66_program.specs.Output.{IsAskedOutput, IsOutput, shows_blocks};
-ghost use Rattle.s66_program.specs.CompareText.{IsViewOutput};
-ghost use Rattle.s66_program.specs.Remarks.{IsRemark, prints_orders};
-ghost use Rattle.s66_program.specs.Run.{IsRefusal};
+ghost use Rattle.s66_program.specs.{IsAskedOutput, IsOutput, shows_blocks, IsViewOutput, IsRemark, prints_orders, IsRefusal};
 
 use crate::chart_text::chart_output;
 use crate::check_text::check_output;

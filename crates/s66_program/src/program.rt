@@ -1,7 +1,7 @@
 //! The program (`run_program`): from words, a reader and writers to a status.
 
 ghost use Rattle.std.specs.Prelude.{◌-◌, ◌^◌, ◌<◌, map};
-ghost use Rattle.s66_program.specs.Program.{IsRun};
+ghost use Rattle.s66_program.specs.{IsRun};
 
 use crate::run::run_command;
 use crate::telling::{show_usage, tell_end, tell_failure};

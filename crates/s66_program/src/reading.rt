@@ -1,9 +1,7 @@
 //! Reads an input to its end (`read_all`); of a text that is too long for a source a front is kept, which shows why.
 
 ghost use Rattle.std.specs.Prelude.{ℕ, List, ◌≡◌, ◌-◌, ◌^◌, ◌<◌, ◌↔◌, length, vec_len, IfOk, IfErr, IsTrue, OnOk};
-ghost use Rattle.s66_program.specs.Device.{ReadsAll};
-ghost use Rattle.s66_program.specs.KeptInput.{IsFull, IsKeptInput, Puts};
-ghost use Rattle.s66_program.specs.ReadFaults.{IsReadFault};
+ghost use Rattle.s66_program.specs.{ReadsAll, IsFull, IsKeptInput, Puts, IsReadFault};
 
 use crate::fault::Fault;
 use crate::limits::{FEED_CALLS, FEED_ROOM};

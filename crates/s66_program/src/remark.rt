@@ -2,11 +2,11 @@
 //! And the status by that.
 
 ghost use Rattle.std.specs.Prelude.{ℕ, List, [], ◌≡◌, ◌==◌, ◌<◌, ◌≤◌, ◌++◌, Some, true, false, if◌then◌else◌, codes, IfOk, length};
-ghost use Rattle.s66_command.specs.CommandParts.{reads_cut, reads_of};
+ghost use Rattle.s66_command.specs.{reads_cut, reads_of};
 ghost use Rattle.s66_command.specs.declared.command.Reads.TheVariants as reads;
-ghost use Rattle.s66_source.specs.Source.{source_of};
-ghost use Rattle.s66_program.specs.Output.{shows_blocks, source_in};
-ghost use Rattle.s66_program.specs.Remarks.{IsCount, IsRemark, bounded_line, counted_source, found_words, is_deep, lines_word, lint_words, listed_line, missing_line, missing_of_documents, missing_of_source, prints_orders, raised, regions_line, without_block, without_blocks};
+ghost use Rattle.s66_source.specs.{source_of};
+ghost use Rattle.s66_program.specs.{shows_blocks, source_in, IsCount, IsRemark, bounded_line, counted_source, found_words, is_deep, lines_word, lint_words, listed_line, missing_line};
+ghost use Rattle.s66_program.specs.{missing_of_documents, missing_of_source, prints_orders, raised, regions_line, without_block, without_blocks};
 ghost use Rattle.s66_program.specs.declared.remark.Missing.TheVariants as missing;
 
 use crate::limits::REMARK_ROOM;
@@ -175,7 +175,7 @@ fn push_regions(text: &mut ArrayString<REMARK_ROOM>, regions: usize, lines: usiz
 
 impl Remark {
     ghost use Rattle.std.specs.Prelude.{◌≡◌};
-    ghost use Rattle.s66_program.specs.Remarks.{remark_text};
+    ghost use Rattle.s66_program.specs.{remark_text};
 
     /// The lines that standard error gets of an input, each with its newline.
     fn text(&self) -> ArrayString<REMARK_ROOM>
@@ -235,7 +235,7 @@ fn push_bounded(text: &mut ArrayString<REMARK_ROOM>, status: Status)
 
 impl Ended {
     ghost use Rattle.std.specs.Prelude.{◌≡◌};
-    ghost use Rattle.s66_program.specs.Remarks.{told_text};
+    ghost use Rattle.s66_program.specs.{told_text};
 
     /// The lines that standard error gets after a command, each with its newline.
     pub fn text(&self, command: Command) -> ArrayString<REMARK_ROOM>

@@ -1,9 +1,7 @@
 //! Runs a command (`run_command`): reads its profile and its input, makes all text, and only then writes.
 
 ghost use Rattle.std.specs.Prelude.{true, ◌≡◌, ◌-◌, ◌^◌, ◌<◌, IfOk, IfErr, IfSome};
-ghost use Rattle.s66_program.specs.Output.{IsUnder, reads_source};
-ghost use Rattle.s66_program.specs.declared.limits.TheConstants.{SOURCE_FRONT};
-ghost use Rattle.s66_program.specs.Run.{IsOutcome, IsOutcomeUnder, IsProfileFault};
+ghost use Rattle.s66_program.specs.{IsUnder, reads_source, SOURCE_FRONT, IsOutcome, IsOutcomeUnder, IsProfileFault};
 
 use crate::fault::Fault;
 use crate::limits::SOURCE_FRONT;

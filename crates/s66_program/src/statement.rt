@@ -2,8 +2,8 @@
 
 ghost use Rattle.std.specs.Prelude.{ℕ, List, ◌≡◌, map};
 ghost use Rattle.std.specs.Borrow.{Bor};
-ghost use Rattle.s66_source.specs.LeftAlone.{has_operation};
-ghost use Rattle.s66_program.specs.Statement.{begins_word, is_conditional, is_one_of, is_same, location_of, name_in, name_of, passes, step_by, step_of, target_in, target_of};
+ghost use Rattle.s66_source.specs.{has_operation};
+ghost use Rattle.s66_program.specs.{begins_word, is_conditional, is_one_of, is_same, location_of, name_in, name_of, passes, step_by, step_of, target_in, target_of};
 
 use s66_line::{fields_of, is_comment_line, is_continuation, operation_and_operand};
 use s66_source::FramePart;
@@ -31,7 +31,7 @@ pub(crate) enum Step {
 
 impl Step {
     ghost use Rattle.std.specs.Prelude.{◌≡◌};
-    ghost use Rattle.s66_program.specs.Statement.{branches, is_end};
+    ghost use Rattle.s66_program.specs.{branches, is_end};
 
     pub(crate) fn is_end(&self) -> bool
         ensures { result ≡ is_end self.now }

@@ -1,12 +1,10 @@
 //! What is written to standard error: faults, mistakes of the command line, and remarks.
 
 ghost use Rattle.std.specs.Prelude.{◌≡◌, ◌-◌, ◌^◌, ◌<◌, ◌++◌, IfOk, codes, option_map, string_bytes};
-ghost use Rattle.s66_command.specs.ProfileHint.{hint_in_text};
-ghost use Rattle.s66_answer.specs.StatusCode.{status_code};
 ghost use Rattle.std.specs.IoError.{error_kind};
-ghost use Rattle.s66_program.specs.Device.{Tells};
-ghost use Rattle.s66_program.specs.Ends.{EndsAt, EndsByFault, EndsWith, LacksWords, ShowsUsage};
-ghost use Rattle.s66_program.specs.Remarks.{IsTold, told_text};
+ghost use Rattle.s66_command.specs.{hint_in_text};
+ghost use Rattle.s66_answer.specs.{status_code};
+ghost use Rattle.s66_program.specs.{Tells, EndsAt, EndsByFault, EndsWith, LacksWords, ShowsUsage, IsTold, told_text};
 
 use crate::fault::Fault;
 use crate::hint::way_out;

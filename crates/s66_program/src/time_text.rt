@@ -1,7 +1,7 @@
 //! What `time` writes: the time of each block, and with `--trace` of each instruction.
 
 ghost use Rattle.std.specs.Prelude.{◌≡◌, ◌<◌, ◌++◌, length, IfOk, OnOk};
-ghost use Rattle.s66_line.specs.Blocks.{instrs_of};
+ghost use Rattle.s66_line.specs.{instrs_of};
 ghost use Rattle.s66_program.specs.AsWritten.{as_written};
 ghost use Rattle.s66_program.specs.TimeText.{IsTimeOutput, time_line, trace_line, trace_lines, time_lines};
 

@@ -1,7 +1,7 @@
 //! What `why` writes: what instructions wait for, and why no order is faster than a best one.
 
 ghost use Rattle.std.specs.Prelude.{◌≡◌, ◌++◌, IfOk, OnOk};
-ghost use Rattle.s66_line.specs.Blocks.{instrs_of};
+ghost use Rattle.s66_line.specs.{instrs_of};
 ghost use Rattle.s66_program.specs.WhyText.{IsWhyOutput, waits_lines, waits_part, why_lines};
 
 use crate::best_reasons::push_best_reasons;

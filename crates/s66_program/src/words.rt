@@ -1,10 +1,9 @@
 //! How many words of 60 bits an order takes, with the `NO`s that packing fills in.
 
 ghost use Rattle.std.specs.Prelude.{ℕ, ◌≡◌, ◌≤◌, ◌+◌, ◌*◌, length};
-ghost use Rattle.s66_isa.specs.Lists.{Among};
-ghost use Rattle.s66_isa.specs.declared.limits.TheConstants.{BLOCK_LIMIT};
-ghost use Rattle.s66_line.specs.Blocks.{instrs_of};
-ghost use Rattle.s66_program.specs.Words.{parcel_after, words_for, words_of};
+ghost use Rattle.s66_isa.specs.{Among, BLOCK_LIMIT};
+ghost use Rattle.s66_line.specs.{instrs_of};
+ghost use Rattle.s66_program.specs.{parcel_after, words_for, words_of};
 
 use s66_line::Block;
 

@@ -1,9 +1,7 @@
-use Rattle.std.proofs.Common.{ℕ, ◌≡◌, ◌∙◌, ◌++◌, if◌then◌else◌, List, [], OnOk, ap, ap₂, subst, sym}
-use Rattle.std.proofs.lemmas.List.{append-nil}
-use Rattle.s66_reasons.specs.Reasons.{reasons_text}
-use Rattle.s66_checker.specs.declared.verdict.Verdict.TheVariants.{Yes}
-use Rattle.s66_answer.specs.Answers.{document_under}
-use Rattle.s66_answer.specs.Stored.{answer_in}
+use Rattle.std.proofs.Common.{ℕ, ◌≡◌, ◌∙◌, ◌++◌, if◌then◌else◌, List, [], OnOk, ap, ap₂, subst, sym, append-nil}
+use Rattle.s66_checker.specs.{Yes}
+use Rattle.s66_reasons.specs.{reasons_text}
+use Rattle.s66_answer.specs.{document_under, answer_in}
 use Rattle.s66_program.proofs.best_reasons.push_best_reasons.Goals as goal
 
 pub returns-then-not-is_best : goal.returns-then-not-is_best

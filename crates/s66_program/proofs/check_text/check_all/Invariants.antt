@@ -1,8 +1,8 @@
 use Rattle.std.proofs.Common.{◌≡◌, ◌++◌, ◌&&◌, drop, map}
-use Rattle.s66_isa.specs.Lists.{every}
-use Rattle.s66_cert.specs.DocumentParts.{document_of}
-use Rattle.s66_checker.specs.Verdict.{verdict}
-use Rattle.s66_program.specs.CheckText.{is_yes, verdict_lines}
+use Rattle.s66_isa.specs.{every}
+use Rattle.s66_cert.specs.{document_of}
+use Rattle.s66_checker.specs.{verdict}
+use Rattle.s66_program.specs.{is_yes, verdict_lines}
 use Rattle.s66_program.proofs.check_text.check_all.Given as goal
 
 abbrev pub invariant-loop-i : goal.invariant-loop-i

@@ -1,7 +1,7 @@
 use Rattle.std.proofs.Common.{subst, sym}
 use Rattle.s66_source.specs.Halves.{Halves}
-use Rattle.s66_source.specs.LeftAlone.{Reading}
-use Rattle.s66_program.specs.CompareText.{IsViewOf}
+use Rattle.s66_source.specs.{Reading}
+use Rattle.s66_program.specs.{IsViewOf}
 use Rattle.s66_program.proofs.compare_text.compare_output.Goals as goal
 
 pub returns-clause-ok : goal.returns-clause-ok

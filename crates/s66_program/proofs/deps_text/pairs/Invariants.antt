@@ -1,6 +1,5 @@
 use Rattle.std.proofs.Common.{ℕ, List, ◌≡◌, ◌≤◌, ◌+◌, ◌*◌, length, drop}
-use Rattle.s66_isa.specs.declared.limits.TheConstants.{BLOCK_LIMIT}
-use Rattle.s66_isa.specs.Lists.{weigh}
+use Rattle.s66_isa.specs.{BLOCK_LIMIT, weigh}
 use Rattle.s66_program.proofs.deps_text.pairs.Given as goal
 
 abbrev pub invariant-loop-position : goal.invariant-loop-position

@@ -1,6 +1,6 @@
 use Rattle.std.proofs.Common.{rules, OnOk, ℕ, List, ◌≡◌, ◌++◌, ◌∙◌, ap, ap₂, codes, decimal}
 use Rattle.std.proofs.lemmas.Result.{IfOk-equal}
-use Rattle.s66_program.specs.BlockHead.{block_head}
+use Rattle.s66_program.specs.{block_head}
 use Rattle.s66_program.proofs.Pieces.{regrouped}
 use Rattle.s66_program.proofs.deps_text.push_deps_line.Goals as goal
 

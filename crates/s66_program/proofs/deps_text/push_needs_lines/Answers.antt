@@ -1,13 +1,12 @@
 use Rattle.std.proofs.Common.{ℕ, List, ◌≡◌, ◌+◌, ◌-◌, ◌++◌, [], ◌∙◌, sym, ap, arith, length, get_or, append_assoc}
-use Rattle.s66_isa.specs.Lists.{rising}
-use Rattle.s66_line.specs.Blocks.{instrs_of}
-use Rattle.s66_model.specs.Dependence.{needs}
-use Rattle.s66_isa.specs.Members.{numbers_in}
-use Rattle.s66_time.proofs.Readiness.{needs-at}
-use Rattle.s66_program.specs.DepsText.{needs_line, needs_lines}
-use Rattle.s66_program.proofs.deps_text.push_needs_lines.Goals as goal
+use Rattle.s66_isa.specs.{rising, numbers_in}
 use Rattle.s66_isa.proofs.Lists.{rising-next}
+use Rattle.s66_model.specs.{needs}
+use Rattle.s66_line.specs.{instrs_of}
+use Rattle.s66_time.proofs.Readiness.{needs-at}
 use Rattle.s66_time.proofs.Opened.{count-needs}
+use Rattle.s66_program.specs.{needs_line, needs_lines}
+use Rattle.s66_program.proofs.deps_text.push_needs_lines.Goals as goal
 
 pub needs-needs-requires : goal.needs-needs-requires
 needs-needs-requires c = (omega arith, omega (arith, ap (λ (all : List (List ℕ)). length all) c.requires, count-needs (instrs_of c.args.block.now)))

@@ -1,8 +1,7 @@
 use Rattle.std.proofs.Common.{◌≡◌, ◌+◌, ◌-◌, ◌++◌, length}
-use Rattle.s66_isa.specs.Lists.{rising}
-use Rattle.s66_isa.specs.Table.{numbers}
-use Rattle.s66_line.specs.Blocks.{instrs_of}
-use Rattle.s66_program.specs.DepsText.{needs_lines}
+use Rattle.s66_isa.specs.{rising, numbers}
+use Rattle.s66_line.specs.{instrs_of}
+use Rattle.s66_program.specs.{needs_lines}
 use Rattle.s66_program.proofs.deps_text.push_needs_lines.Given as goal
 
 abbrev pub invariant-loop-position : goal.invariant-loop-position

@@ -1,9 +1,9 @@
 use Rattle.std.proofs.Common.{rules, OnOk, ◌≡◌, ◌++◌, ◌∙◌, ap, codes}
 use Rattle.std.proofs.lemmas.Result.{IfOk-equal}
-use Rattle.s66_isa.specs.Table.{instr_at}
-use Rattle.s66_line.specs.Blocks.{instrs_of}
-use Rattle.s66_why.specs.Hazards.{hazards, hazards_text}
-use Rattle.s66_program.specs.DepsText.{named}
+use Rattle.s66_isa.specs.{instr_at}
+use Rattle.s66_line.specs.{instrs_of}
+use Rattle.s66_why.specs.{hazards, hazards_text}
+use Rattle.s66_program.specs.{named}
 use Rattle.s66_program.proofs.Pieces.{regrouped}
 use Rattle.s66_program.proofs.deps_text.push_pair_line.Goals as goal
 

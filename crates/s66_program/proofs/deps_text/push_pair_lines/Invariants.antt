@@ -1,8 +1,8 @@
 use Rattle.std.proofs.Common.{ℕ, ◌≡◌, ◌+◌, ◌-◌, ◌++◌, flat_map, length}
-use Rattle.s66_isa.specs.Lists.{rising}
-use Rattle.s66_line.specs.Blocks.{instrs_of}
-use Rattle.s66_model.specs.Dependence.{needs}
-use Rattle.s66_program.specs.DepsText.{pair_line, pair_lines}
+use Rattle.s66_isa.specs.{rising}
+use Rattle.s66_model.specs.{needs}
+use Rattle.s66_line.specs.{instrs_of}
+use Rattle.s66_program.specs.{pair_line, pair_lines}
 use Rattle.s66_program.proofs.deps_text.push_pair_lines.Given as goal
 
 abbrev pub invariant-loop-position : goal.invariant-loop-position

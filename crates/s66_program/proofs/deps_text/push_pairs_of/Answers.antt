@@ -1,12 +1,10 @@
 use Rattle.std.proofs.Common.{ℕ, List, ◌∙◌, ◌++◌, ap, append_assoc, arith, flat_map, inl, inr, length, refl, subst, sym}
-use Rattle.s66_isa.specs.Lists.{Among}
-use Rattle.s66_isa.specs.Table.{numbers}
+use Rattle.s66_isa.specs.{Among, numbers, numbers_in}
 use Rattle.s66_isa.proofs.Lists.{among-rising, filter-among}
-use Rattle.s66_line.specs.Blocks.{Block, instrs_of}
-use Rattle.s66_model.specs.Dependence.{depends, needs}
-use Rattle.s66_isa.specs.Members.{numbers_in}
-use Rattle.s66_why.specs.Numbers.{IsOf}
-use Rattle.s66_program.specs.DepsText.{pair_line}
+use Rattle.s66_model.specs.{depends, needs}
+use Rattle.s66_line.specs.{Block, instrs_of}
+use Rattle.s66_why.specs.{IsOf}
+use Rattle.s66_program.specs.{pair_line}
 use Rattle.s66_program.proofs.deps_text.push_pairs_of.Goals as goal
 
 needed-within : (block : Block) (n m : ℕ) → Among m (needs (instrs_of block) n) → IsOf block m

@@ -1,10 +1,9 @@
 use Rattle.std.proofs.Common.{ℕ, ◌≡◌, ◌++◌, flat_map, length}
-use Rattle.s66_isa.specs.Members.{numbers_in}
-use Rattle.s66_isa.specs.Lists.{Among}
-use Rattle.s66_line.specs.Blocks.{instrs_of}
-use Rattle.s66_model.specs.Dependence.{needs}
-use Rattle.s66_why.specs.Numbers.{IsOf}
-use Rattle.s66_program.specs.DepsText.{pair_line}
+use Rattle.s66_isa.specs.{numbers_in, Among}
+use Rattle.s66_model.specs.{needs}
+use Rattle.s66_line.specs.{instrs_of}
+use Rattle.s66_why.specs.{IsOf}
+use Rattle.s66_program.specs.{pair_line}
 use Rattle.s66_program.proofs.deps_text.push_pairs_of.Given as goal
 
 abbrev pub invariant-loop-earlier : goal.invariant-loop-earlier

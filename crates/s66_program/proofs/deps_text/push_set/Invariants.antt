@@ -1,6 +1,5 @@
 use Rattle.std.proofs.Common.{◌≡◌, ◌++◌, length}
-use Rattle.s66_isa.specs.Members.{numbers_in}
-use Rattle.s66_isa.specs.Lists.{after_blanks}
+use Rattle.s66_isa.specs.{numbers_in, after_blanks}
 use Rattle.s66_program.proofs.deps_text.push_set.Given as goal
 
 abbrev pub invariant-loop-number : goal.invariant-loop-number

@@ -1,5 +1,5 @@
 use Rattle.std.proofs.Common.{◌≡◌, ◌++◌, [], drop}
-use Rattle.s66_program.specs.Entries.{entries_from}
+use Rattle.s66_program.specs.{entries_from}
 use Rattle.s66_program.proofs.entries.entries_among.Given as goal
 
 abbrev pub invariant-loop-part : goal.invariant-loop-part

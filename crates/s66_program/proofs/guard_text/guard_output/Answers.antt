@@ -1,11 +1,9 @@
-use Rattle.std.proofs.Common.{◌≡◌, ℕ, Bool, List, Ok, ap, subst, sym}
-use Rattle.std.specs.Global.{Vec}
-use Rattle.s66_line.specs.Blocks.{Block}
-use Rattle.s66_lint.specs.Guarded.{IsGuard}
-use Rattle.s66_source.specs.Source.{blocks_of, classed_lines, source_of}
-use Rattle.s66_command.specs.declared.command.Asked.{Asked}
-use Rattle.s66_program.specs.GuardText.{IsGuardOutput}
-use Rattle.s66_program.specs.Output.{IsAskedOutput, source_in}
+use Rattle.std.proofs.Common.{◌≡◌, ℕ, Bool, List, Ok, ap, subst, sym, Vec}
+use Rattle.s66_command.specs.{Asked}
+use Rattle.s66_line.specs.{Block}
+use Rattle.s66_source.specs.{blocks_of, classed_lines, source_of}
+use Rattle.s66_lint.specs.{IsGuard}
+use Rattle.s66_program.specs.{IsGuardOutput, IsAskedOutput, source_in}
 use Rattle.s66_program.proofs.guard_text.guard_output.Goals as goal
 
 pub returns-clause-ok : goal.returns-clause-ok

@@ -1,9 +1,7 @@
 use Rattle.std.proofs.Common.{ℕ, ◌≡◌, ◌∙◌, IfOk, List, Option, subst, sym}
-use Rattle.s66_command.specs.declared.strategy.Strategy.{Strategy}
-use Rattle.s66_answer.specs.declared.outcome.Output.{Output}
-use Rattle.s66_program.specs.Entries.{entries_of}
-use Rattle.s66_program.specs.JsonText.{IsJsonOutput, written_line}
-use Rattle.s66_program.specs.Listing.{IsListing}
+use Rattle.s66_command.specs.{Strategy}
+use Rattle.s66_answer.specs.{Output}
+use Rattle.s66_program.specs.{entries_of, IsJsonOutput, written_line, IsListing}
 use Rattle.s66_program.proofs.json_text.json_output.Goals as goal
 
 pub returns-in-None : goal.returns-in-None

@@ -1,8 +1,8 @@
 use Rattle.std.proofs.Common.{rules, ◌≡◌, ◌++◌, OnOk, subst}
-use Rattle.s66_line.specs.Blocks.{instrs_of}
+use Rattle.s66_line.specs.{instrs_of}
 use Rattle.s66_time.specs.TimedOrder.{TimedOrder}
-use Rattle.s66_views.specs.Json.{found_data, json_line}
-use Rattle.s66_program.specs.AsWritten.{as_written}
+use Rattle.s66_views.specs.{found_data, json_line}
+use Rattle.s66_program.specs.{as_written}
 use Rattle.s66_program.proofs.json_text.push_json_found.Goals as goal
 
 pub returns-clause-line : goal.returns-clause-line

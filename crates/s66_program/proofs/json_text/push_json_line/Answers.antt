@@ -1,10 +1,9 @@
 use Rattle.std.proofs.Common.{rules, ℕ, List, ◌≡◌, ◌++◌, OnOk, subst}
 use Rattle.serde_json.specs.Data.{null}
-use Rattle.s66_line.specs.Blocks.{instrs_of}
+use Rattle.s66_line.specs.{instrs_of}
 use Rattle.s66_time.specs.TimedOrder.{TimedOrder}
-use Rattle.s66_program.specs.Entries.{entry_at}
-use Rattle.s66_views.specs.Json.{json_line}
-use Rattle.s66_program.specs.AsWritten.{as_written}
+use Rattle.s66_views.specs.{json_line}
+use Rattle.s66_program.specs.{entry_at, as_written}
 use Rattle.s66_program.proofs.json_text.push_json_line.Goals as goal
 
 pub returns-clause-line : goal.returns-clause-line

@@ -1,16 +1,12 @@
 use Rattle.std.proofs.Common.{◌≡◌, Bool, true, false, true≢false, [], List, ◌∷◌, refl, sym, subst, inl, inr, if◌then◌else◌}
-use Rattle.s66_isa.specs.Lists.{Among}
+use Rattle.s66_isa.specs.{Among, BLOCK_LIMIT}
 use Rattle.s66_isa.proofs.Lists.{every-each}
-use Rattle.s66_isa.specs.declared.limits.TheConstants.{BLOCK_LIMIT}
-use Rattle.s66_cert.specs.declared.limits.TheConstants.{SPLIT_LIMIT}
-use Rattle.s66_cert.specs.Documents.{Document, AreDocumentsWithin, IsDocumentWithin}
+use Rattle.s66_cert.specs.{SPLIT_LIMIT, Document, AreDocumentsWithin, IsDocumentWithin}
 use Rattle.s66_checker.specs.declared.verdict.Verdict.{Verdict}
-use Rattle.s66_checker.specs.declared.verdict.Verdict.TheVariants.{Yes, No}
-use Rattle.s66_checker.specs.TrueClaims.{IsTrueClaim}
-use Rattle.s66_checker.specs.Verdict.{verdict}
+use Rattle.s66_checker.specs.{Yes, No, IsTrueClaim, verdict}
 use Rattle.s66_checker.proofs.GrantedClaims.{verdict-claims, claim-bound}
-use Rattle.s66_answer.specs.declared.outcome.Status.TheVariants.{Done, Denied}
-use Rattle.s66_program.specs.CheckText.{is_yes}
+use Rattle.s66_answer.specs.{Done, Denied}
+use Rattle.s66_program.specs.{is_yes}
 use Rattle.s66_program.proofs.laws.done_law.Goals as goal
 
 of-them : (ds : List Document) (d : Document) → AreDocumentsWithin BLOCK_LIMIT SPLIT_LIMIT ds → Among d ds → IsDocumentWithin BLOCK_LIMIT SPLIT_LIMIT d

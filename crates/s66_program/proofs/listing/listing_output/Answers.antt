@@ -1,5 +1,5 @@
 use Rattle.std.proofs.Common.{◌∙◌, ap₂, refl}
-use Rattle.s66_program.specs.Listing.{lines_of_blocks}
+use Rattle.s66_program.specs.{lines_of_blocks}
 use Rattle.s66_program.proofs.listing.listing_output.Goals as goal
 
 pub returns : goal.returns

@@ -1,8 +1,8 @@
 use Rattle.std.proofs.Common.{List, ◌≡◌, ◌+◌, ◌++◌, ◌∙◌, ◌∷◌, ap, append_assoc, arith, drop, sym}
 use Rattle.std.proofs.lemmas.List.{drop_more}
-use Rattle.s66_isa.specs.declared.profile.Profile.{Profile}
-use Rattle.s66_line.specs.Blocks.{Block}
-use Rattle.s66_program.specs.Listing.{lines_of_blocks}
+use Rattle.s66_isa.specs.{Profile}
+use Rattle.s66_line.specs.{Block}
+use Rattle.s66_program.specs.{lines_of_blocks}
 use Rattle.s66_program.proofs.listing.text_of_blocks.Goals as goal
 
 pub loop-i-preserved : goal.loop-i-preserved

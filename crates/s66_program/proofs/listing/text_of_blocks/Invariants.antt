@@ -1,5 +1,5 @@
 use Rattle.std.proofs.Common.{◌≡◌, ◌+◌, ◌++◌, drop}
-use Rattle.s66_program.specs.Listing.{lines_of_blocks}
+use Rattle.s66_program.specs.{lines_of_blocks}
 use Rattle.s66_program.proofs.listing.text_of_blocks.Given as goal
 
 abbrev pub invariant-loop-i : goal.invariant-loop-i

@@ -1,5 +1,5 @@
 use Rattle.std.proofs.Common.{◌≡◌, ◌≤◌, ◌+◌, length, reverse}
-use Rattle.s66_program.specs.Loops.{start_before}
+use Rattle.s66_program.specs.{start_before}
 use Rattle.s66_program.proofs.loops.start_before.Given as goal
 
 abbrev pub invariant-loop-rest : goal.invariant-loop-rest

@@ -1,5 +1,5 @@
 use Rattle.std.proofs.Common.{ℕ, zero, suc, ◌+◌, ◌≡◌, ◌++◌, ◌∙◌, [], ◌∷◌, List, None, Option, ap, arith, refl, replicate}
-use Rattle.s66_source.specs.Printed.{Placed}
+use Rattle.s66_source.specs.{Placed}
 use Rattle.s66_program.proofs.order_text.after_standing.Goals as goal
 
 one-more : (n : ℕ) → replicate n None ++ None ∷ [] ≡ replicate {A = Option Placed} (suc n) None

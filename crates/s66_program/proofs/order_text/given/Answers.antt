@@ -1,9 +1,9 @@
 use Rattle.std.proofs.Common.{◌≡◌, ◌&&◌, ◌∙◌, true, false, if◌then◌else◌, None, Some, ap, ap₂, sym}
-use Rattle.s66_source.specs.Printed.{Placed}
-use Rattle.s66_answer.specs.Stored.{answer_in}
-use Rattle.s66_program.specs.OrderText.{rise_from, placed_by}
-use Rattle.s66_program.proofs.order_text.given.Goals as goal
+use Rattle.s66_source.specs.{Placed}
+use Rattle.s66_answer.specs.{answer_in}
+use Rattle.s66_program.specs.{rise_from, placed_by}
 use Rattle.s66_program.proofs.order_text.given.Goals.{else-style-via-then-style+else-keeps_order, else-style-via-else-style}
+use Rattle.s66_program.proofs.order_text.given.Goals as goal
 
 pub returns-then-keeps_order : goal.returns-then-keeps_order
 returns-then-keeps_order c = λ strategy p block for.

@@ -1,5 +1,5 @@
 use Rattle.std.proofs.Common.{◌≡◌, ◌+◌, drop}
-use Rattle.s66_program.specs.OrderText.{rise_from}
+use Rattle.s66_program.specs.{rise_from}
 use Rattle.s66_program.proofs.order_text.keeps_order.Given as goal
 
 abbrev pub invariant-loop-i : goal.invariant-loop-i

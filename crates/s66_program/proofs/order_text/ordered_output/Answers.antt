@@ -1,11 +1,9 @@
 use Rattle.std.proofs.Common.{◌≡◌, ◌∙◌, ◌++◌, List, None, Option, ap, ap₂, length, min, refl, replicate, subst, sym}
-use Rattle.s66_line.specs.Blocks.{Block}
-use Rattle.s66_source.specs.Printed.{Placed}
-use Rattle.s66_source.specs.Replaced.{AreGiven, printed_in}
-use Rattle.s66_source.specs.Source.{blocks_of, classed_lines}
-use Rattle.s66_answer.specs.Shown.{before, shown}
+use Rattle.s66_line.specs.{Block}
+use Rattle.s66_source.specs.{Placed, AreGiven, printed_in, blocks_of, classed_lines}
+use Rattle.s66_answer.specs.{before, shown}
 use Rattle.s66_answer.proofs.KeptParts.{kept-whole}
-use Rattle.s66_program.specs.OrderText.{all_given, columns_by, given_part}
+use Rattle.s66_program.specs.{all_given, columns_by, given_part}
 use Rattle.s66_program.proofs.KeptAnswers.{given-within, same-blocks, standing-same}
 use Rattle.s66_program.proofs.order_text.ordered_output.Goals as goal
 

@@ -1,10 +1,10 @@
 use Rattle.std.proofs.Common.{◌≡◌, ◌∙◌, if◌then◌else◌, None, Some, ap, sym}
+use Rattle.s66_source.specs.{Placed}
 use Rattle.s66_time.specs.Ordered.{Ordered}
-use Rattle.s66_source.specs.Printed.{Placed}
-use Rattle.s66_answer.specs.Stored.{answer_in}
-use Rattle.s66_program.specs.OrderText.{placed_by}
-use Rattle.s66_program.proofs.order_text.placing.Goals as goal
+use Rattle.s66_answer.specs.{answer_in}
+use Rattle.s66_program.specs.{placed_by}
 use Rattle.s66_program.proofs.order_text.placing.Goals.{then-trace, else-trace}
+use Rattle.s66_program.proofs.order_text.placing.Goals as goal
 
 same-placed : (v w : Placed) → v.order ≡ w.order → v.source ≡ w.source → v.time ≡ w.time → v.bound ≡ w.bound → v.splits ≡ w.splits → v ≡ w
 same-placed v w order source time bound splits =

@@ -1,7 +1,6 @@
 use Rattle.std.proofs.Common.{IfOk, subst, sym}
-use Rattle.s66_command.specs.declared.command.Asked.{Asked}
-use Rattle.s66_program.specs.declared.remark.Finished.{Finished}
-use Rattle.s66_program.specs.Output.{IsAskedOutput, source_in}
+use Rattle.s66_command.specs.{Asked}
+use Rattle.s66_program.specs.{Finished, IsAskedOutput, source_in}
 use Rattle.s66_program.proofs.output.output_for.Goals as goal
 
 pub returns-in-Guard-clause-ok : goal.returns-in-Guard-clause-ok

@@ -1,7 +1,7 @@
 use Rattle.std.proofs.Common.{IfOk, subst, sym}
-use Rattle.s66_command.specs.declared.command.Asked.{Asked}
-use Rattle.s66_answer.specs.declared.outcome.Output.{Output}
-use Rattle.s66_program.specs.Output.{IsAskedOutput}
+use Rattle.s66_command.specs.{Asked}
+use Rattle.s66_answer.specs.{Output}
+use Rattle.s66_program.specs.{IsAskedOutput}
 use Rattle.s66_program.proofs.output.output_of.Goals as goal
 
 pub returns-in-Sum : goal.returns-in-Sum

@@ -1,5 +1,5 @@
 use Rattle.std.proofs.Common.{Bool, subst}
-use Rattle.s66_program.specs.CompareText.{IsViewOutput}
+use Rattle.s66_program.specs.{IsViewOutput}
 use Rattle.s66_program.proofs.output.sources_output.Goals as goal
 
 pub returns-clause-ok : goal.returns-clause-ok

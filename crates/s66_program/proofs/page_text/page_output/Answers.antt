@@ -1,22 +1,14 @@
 use Rattle.std.proofs.Common.{ℕ, List, [], ◌∷◌, Option, None, Some, Ok, ◌≡◌, ◌≤◌, ◌<◌, ◌^◌, ◌-◌, ◌++◌, ◌∙◌, ap, ap₂, arith, drop, length, refl, subst, sym, take}
-use Rattle.s66_isa.specs.declared.profile.Profile.{Profile}
-use Rattle.s66_line.specs.Blocks.{Block}
-use Rattle.s66_program.specs.Entries.{entries_of}
-use Rattle.s66_views.specs.FoundOrders.{AreOf, FoundOrder}
-use Rattle.s66_views.specs.Page.{page_text}
-use Rattle.s66_source.specs.LeftAlone.{Reading}
-use Rattle.s66_source.specs.declared.limits.TheConstants.{SOURCE_LINES_LIMIT}
-use Rattle.s66_source.specs.Source.{source_of}
-use Rattle.s66_command.specs.declared.strategy.Strategy.{Strategy}
-use Rattle.s66_answer.specs.declared.outcome.Status.{Status}
-use Rattle.s66_answer.specs.Answers.{Answer, AreAnswers}
-use Rattle.s66_answer.specs.OfAnswers.{status_of}
-use Rattle.s66_answer.specs.Shown.{before, shown}
-use Rattle.s66_answer.specs.Kept.{AreAnswered}
-use Rattle.s66_answer.proofs.KeptParts.{kept-whole, of-read}
-use Rattle.s66_program.specs.PageText.{all_found, found_part}
-use Rattle.s66_program.proofs.FoundAnswers.{found-of}
+use Rattle.s66_isa.specs.{Profile}
+use Rattle.s66_command.specs.{Strategy}
+use Rattle.s66_line.specs.{Block}
+use Rattle.s66_source.specs.{Reading, SOURCE_LINES_LIMIT, source_of}
 use Rattle.s66_source.proofs.FewBlocks.{few-blocks}
+use Rattle.s66_views.specs.{AreOf, FoundOrder, page_text}
+use Rattle.s66_answer.specs.{Status, Answer, AreAnswers, status_of, before, shown, AreAnswered}
+use Rattle.s66_answer.proofs.KeptParts.{kept-whole, of-read}
+use Rattle.s66_program.specs.{entries_of, all_found, found_part}
+use Rattle.s66_program.proofs.FoundAnswers.{found-of}
 use Rattle.s66_program.proofs.page_text.page_output.Goals as goal
 
 few-one : (blocks : List Block) → length (take 1 blocks) ≤ 1

@@ -1,9 +1,9 @@
 use Rattle.std.proofs.Common.{refl}
 use Rattle.std.proofs.lemmas.Result.{IfOk-weaker}
-use Rattle.s66_cert.specs.Documents.{documents_text}
-use Rattle.s66_answer.specs.declared.outcome.Output.{Output}
+use Rattle.s66_cert.specs.{documents_text}
+use Rattle.s66_answer.specs.{Output}
 use Rattle.s66_answer.proofs.KeptParts.{kept-whole}
-use Rattle.s66_program.specs.ProveText.{all_documents, document_part}
+use Rattle.s66_program.specs.{all_documents, document_part}
 use Rattle.s66_program.proofs.prove_text.prove_output.Goals as goal
 
 pub returns : goal.returns

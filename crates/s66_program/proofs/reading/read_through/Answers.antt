@@ -1,5 +1,4 @@
-use Rattle.std.proofs.Common.{◌+◌, ◌∙◌, ◌++◌, take, rules, arith}
-use Rattle.std.proofs.lemmas.List.{length-append}
+use Rattle.std.proofs.Common.{◌+◌, ◌∙◌, ◌++◌, take, rules, arith, length-append}
 use Rattle.s66_program.proofs.Calls.{consumes-more, one-read, wants-memory}
 use Rattle.s66_program.proofs.ReadInput.{kept-more}
 use Rattle.s66_program.proofs.reading.read_through.Goals as goal

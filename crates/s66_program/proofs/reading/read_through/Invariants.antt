@@ -1,7 +1,6 @@
-use Rattle.std.proofs.Common.{ℕ, List, ◌≡◌, ◌≤◌, length}
 use Rattle.std.specs.Io.KnownBytes.{Consumes}
-use Rattle.s66_program.specs.Device.{Calls}
-use Rattle.s66_program.specs.KeptInput.{IsKeptInput}
+use Rattle.std.proofs.Common.{ℕ, List, ◌≡◌, ◌≤◌, length}
+use Rattle.s66_program.specs.{Calls, IsKeptInput}
 use Rattle.s66_program.proofs.reading.read_through.Given as goal
 
 abbrev pub invariant-calls : goal.invariant-calls

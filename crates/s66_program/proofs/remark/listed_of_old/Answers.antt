@@ -1,8 +1,8 @@
 use Rattle.std.proofs.Common.{Bool, IfOk, Option, Some, subst, sym}
+use Rattle.s66_command.specs.{reads_cut}
 use Rattle.s66_source.specs.Halves.{Halves}
-use Rattle.s66_source.specs.LeftAlone.{Reading}
-use Rattle.s66_command.specs.CommandParts.{reads_cut}
-use Rattle.s66_program.specs.Remarks.{IsCount}
+use Rattle.s66_source.specs.{Reading}
+use Rattle.s66_program.specs.{IsCount}
 use Rattle.s66_program.proofs.CountedSources.{counted-old}
 use Rattle.s66_program.proofs.remark.listed_of_old.Goals as goal
 

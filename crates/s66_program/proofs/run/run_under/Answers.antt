@@ -1,5 +1,5 @@
 use Rattle.std.proofs.Common.{refl, rules, subst, sym}
-use Rattle.s66_program.specs.KeptInput.{IsKeptInput}
+use Rattle.s66_program.specs.{IsKeptInput}
 use Rattle.s66_program.proofs.KeptInput.{whole-output, whole-refusal, whole-remark}
 use Rattle.s66_program.proofs.RefusedInput.{refused-input}
 use Rattle.s66_program.proofs.run.run_under.Goals as goal

@@ -1,6 +1,5 @@
-use Rattle.std.proofs.Common.{◌≡◌, drop, map, List, ℕ}
-use Rattle.std.specs.Borrow.{Bor}
-use Rattle.s66_program.specs.Statement.{is_one_of}
+use Rattle.std.proofs.Common.{◌≡◌, drop, map, List, ℕ, Bor}
+use Rattle.s66_program.specs.{is_one_of}
 use Rattle.s66_program.proofs.statement.is_one_of.Given as goal
 
 abbrev pub invariant-loop-known : goal.invariant-loop-known

@@ -1,5 +1,5 @@
 use Rattle.std.proofs.Common.{◌≡◌, length}
-use Rattle.s66_program.specs.Statement.{behind_commas}
+use Rattle.s66_program.specs.{behind_commas}
 use Rattle.s66_program.proofs.statement.target_in.Given as goal
 
 abbrev pub invariant-loop-rest : goal.invariant-loop-rest

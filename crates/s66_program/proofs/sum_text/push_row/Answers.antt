@@ -1,6 +1,6 @@
 use Rattle.std.proofs.Common.{◌++◌, ◌∙◌, ap, append_assoc, codes, decimal}
 use Rattle.std.proofs.lemmas.Result.{IfOk-equal}
-use Rattle.s66_program.specs.SumText.{bound_text, row_end}
+use Rattle.s66_program.specs.{bound_text, row_end}
 use Rattle.s66_program.proofs.Pieces.{regrouped}
 use Rattle.s66_program.proofs.sum_text.push_row.Goals as goal
 

@@ -1,6 +1,6 @@
 use Rattle.std.proofs.Common.{◌++◌, ◌∙◌, ap, codes, decimal}
 use Rattle.std.proofs.lemmas.Result.{IfOk-equal}
-use Rattle.s66_program.specs.SumText.{line_end, total_times}
+use Rattle.s66_program.specs.{line_end, total_times}
 use Rattle.s66_program.proofs.Pieces.{gathered}
 use Rattle.s66_program.proofs.sum_text.push_total.Goals as goal
 

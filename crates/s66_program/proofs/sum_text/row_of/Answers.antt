@@ -1,6 +1,6 @@
 use Rattle.std.proofs.Common.{◌∙◌, ap, subst}
-use Rattle.s66_isa.specs.Lists.{Among}
-use Rattle.s66_source.specs.Printed.{Placed}
+use Rattle.s66_isa.specs.{Among}
+use Rattle.s66_source.specs.{Placed}
 use Rattle.s66_program.proofs.PlacedBlocks.{source-within}
 use Rattle.s66_program.proofs.sum_text.row_of.Goals as goal
 

@@ -1,23 +1,11 @@
 use Rattle.std.proofs.Common.{ℕ, ◌≡◌, ◌≤◌, ◌∙◌, Bool, List, Ok, Option, length, ap, ap₂, refl, sym, subst}
-use Rattle.s66_isa.specs.declared.profile.Profile.{Profile}
-use Rattle.s66_line.specs.Blocks.{Block}
-use Rattle.s66_source.specs.LeftAlone.{Reading}
-use Rattle.s66_source.specs.declared.limits.TheConstants.{SOURCE_LINES_LIMIT}
-use Rattle.s66_source.specs.Printed.{ArePlaced, Placed}
-use Rattle.s66_source.specs.Source.{source_of}
-use Rattle.s66_command.specs.declared.strategy.Strategy.{Strategy}
-use Rattle.s66_answer.specs.declared.outcome.Status.{Status}
-use Rattle.s66_answer.specs.Answers.{Answer, AreAnswers}
-use Rattle.s66_answer.specs.OfAnswers.{status_of}
-use Rattle.s66_answer.specs.Shown.{before, shown}
-use Rattle.s66_answer.specs.Kept.{AreAnswered}
+use Rattle.s66_isa.specs.{Profile}
+use Rattle.s66_command.specs.{Strategy}
+use Rattle.s66_line.specs.{Block}
+use Rattle.s66_source.specs.{Reading, SOURCE_LINES_LIMIT, ArePlaced, Placed, source_of}
+use Rattle.s66_answer.specs.{Status, Answer, AreAnswers, status_of, before, shown, AreAnswered}
 use Rattle.s66_answer.proofs.KeptParts.{kept-whole, of-read}
-use Rattle.s66_program.specs.Entries.{entries_of}
-use Rattle.s66_program.specs.Loops.{Orders, loops_of}
-use Rattle.s66_program.specs.declared.loops.Loop.{Loop}
-use Rattle.s66_program.specs.declared.sum_text.Row.{Row}
-use Rattle.s66_program.specs.OrderText.{all_placed, placed_part}
-use Rattle.s66_program.specs.SumText.{AreNumbered, IsSumText, orders_of, rows_of}
+use Rattle.s66_program.specs.{entries_of, Orders, loops_of, Loop, Row, all_placed, placed_part, AreNumbered, IsSumText, orders_of, rows_of}
 use Rattle.s66_program.proofs.PlacedAnswers.{all-within}
 use Rattle.s66_program.proofs.SumRows.{few-rows, length-placed, rows-numbered}
 use Rattle.s66_program.proofs.sum_text.sum_output.Goals as goal

@@ -1,5 +1,5 @@
 use Rattle.std.proofs.Common.{subst}
-use Rattle.s66_device.specs.Devices.{Written}
+use Rattle.s66_device.specs.{Written}
 use Rattle.s66_program.proofs.Told.{told-both, told-first}
 use Rattle.s66_program.proofs.telling.tell_both.Goals as goal
 

@@ -1,5 +1,5 @@
 use Rattle.std.proofs.Common.{◌≡◌, ◌++◌, drop}
-use Rattle.s66_program.specs.TimeText.{trace_lines}
+use Rattle.s66_program.specs.{trace_lines}
 use Rattle.s66_program.proofs.time_text.push_trace.Given as goal
 
 abbrev pub invariant-loop-position : goal.invariant-loop-position

@@ -1,7 +1,7 @@
 use Rattle.std.proofs.Common.{IfOk, Option, subst, sym}
-use Rattle.s66_command.specs.declared.strategy.Strategy.{Strategy}
-use Rattle.s66_answer.specs.declared.outcome.Output.{Output}
-use Rattle.s66_program.specs.WhyText.{IsWhyOutput}
+use Rattle.s66_command.specs.{Strategy}
+use Rattle.s66_answer.specs.{Output}
+use Rattle.s66_program.specs.{IsWhyOutput}
 use Rattle.s66_program.proofs.why_text.why_output.Goals as goal
 
 pub returns-in-Some : goal.returns-in-Some

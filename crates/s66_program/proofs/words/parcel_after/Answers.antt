@@ -1,5 +1,5 @@
 use Rattle.std.proofs.lemmas.List.{length-map}
-use Rattle.s66_line.specs.Blocks.{Entry}
+use Rattle.s66_line.specs.{Entry}
 use Rattle.s66_line.proofs.OperationLaw.{among-at}
 use Rattle.s66_program.proofs.words.parcel_after.Goals as goal
 

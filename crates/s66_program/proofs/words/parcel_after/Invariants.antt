@@ -1,6 +1,6 @@
 use Rattle.std.proofs.Common.{◌≡◌, ◌≤◌, ◌+◌, ◌*◌, drop}
-use Rattle.s66_line.specs.Blocks.{instrs_of}
-use Rattle.s66_program.specs.Words.{parcel_after}
+use Rattle.s66_line.specs.{instrs_of}
+use Rattle.s66_program.specs.{parcel_after}
 use Rattle.s66_program.proofs.words.parcel_after.Given as goal
 
 abbrev pub invariant-loop-number : goal.invariant-loop-number

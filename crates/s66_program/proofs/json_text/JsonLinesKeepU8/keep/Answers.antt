@@ -1,11 +1,10 @@
 use Rattle.std.proofs.Common.{ℕ, ◌∙◌, ◌++◌, List, ap, ap₂}
-use Rattle.s66_isa.specs.declared.profile.Profile.{Profile}
+use Rattle.s66_isa.specs.{Profile}
+use Rattle.s66_line.specs.{instrs_of}
 use Rattle.s66_time.specs.Ordered.{Ordered}
-use Rattle.s66_line.specs.Blocks.{instrs_of}
-use Rattle.s66_program.specs.Entries.{entry_at}
-use Rattle.s66_views.specs.Json.{found_data, json_line}
-use Rattle.s66_answer.specs.Stored.{answer_in}
-use Rattle.s66_program.specs.AsWritten.{as_written}
+use Rattle.s66_views.specs.{found_data, json_line}
+use Rattle.s66_answer.specs.{answer_in}
+use Rattle.s66_program.specs.{entry_at, as_written}
 use Rattle.s66_program.proofs.json_text.JsonLinesKeepU8.keep.Goals as goal
 
 pub push_json_found-requires : goal.push_json_found-requires

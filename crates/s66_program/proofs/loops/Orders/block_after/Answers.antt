@@ -1,10 +1,9 @@
 use Rattle.std.proofs.Common.{◌≡◌, ◌∙◌, Some, ap, ap₂, refl, slice_get, subst, sym}
 use Rattle.std.proofs.lemmas.Option.{slice_get_read}
-use Rattle.s66_isa.specs.Lists.{Among}
-use Rattle.s66_line.specs.Blocks.{instrs_of}
-use Rattle.s66_source.specs.Printed.{ArePlaced, Placed}
-use Rattle.s66_program.specs.Loops.{Orders, block_after}
-use Rattle.s66_program.specs.Words.{parcel_after}
+use Rattle.s66_isa.specs.{Among}
+use Rattle.s66_line.specs.{instrs_of}
+use Rattle.s66_source.specs.{ArePlaced, Placed}
+use Rattle.s66_program.specs.{Orders, block_after, parcel_after}
 use Rattle.s66_program.proofs.PlacedBlocks.{inside-at, placed-at, source-within}
 use Rattle.s66_program.proofs.loops.Orders.block_after.Goals as goal
 

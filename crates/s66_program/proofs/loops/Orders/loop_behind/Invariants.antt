@@ -1,5 +1,5 @@
 use Rattle.std.proofs.Common.{◌≡◌, drop, None}
-use Rattle.s66_program.specs.Loops.{loop_behind}
+use Rattle.s66_program.specs.{loop_behind}
 use Rattle.s66_program.proofs.loops.Orders.loop_behind.Given as goal
 
 abbrev pub invariant-loop-at : goal.invariant-loop-at

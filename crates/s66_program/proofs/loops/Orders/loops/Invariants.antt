@@ -1,5 +1,5 @@
 use Rattle.std.proofs.Common.{◌≡◌, ◌≤◌, ◌++◌, drop}
-use Rattle.s66_program.specs.Loops.{loops_from}
+use Rattle.s66_program.specs.{loops_from}
 use Rattle.s66_program.proofs.loops.Orders.loops.Given as goal
 
 abbrev pub invariant-loop-at : goal.invariant-loop-at

@@ -1,5 +1,5 @@
 use Rattle.std.proofs.Common.{◌≡◌, ◌≤◌, ◌+◌, ◌*◌, drop}
-use Rattle.s66_program.specs.Loops.{parcels_through}
+use Rattle.s66_program.specs.{parcels_through}
 use Rattle.s66_program.proofs.loops.Orders.parcels_through.Given as goal
 
 abbrev pub invariant-loop-part : goal.invariant-loop-part

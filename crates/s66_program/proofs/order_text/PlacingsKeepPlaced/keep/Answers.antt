@@ -1,5 +1,5 @@
 use Rattle.std.proofs.Common.{◌∙◌, ◌++◌, [], ◌∷◌, ap}
-use Rattle.s66_source.specs.Printed.{Placed}
+use Rattle.s66_source.specs.{Placed}
 use Rattle.s66_program.proofs.order_text.PlacingsKeepPlaced.keep.Goals as goal
 
 pub returns : goal.returns

@@ -1,9 +1,9 @@
 use Rattle.std.proofs.Common.{ℕ, ◌≡◌, ◌∙◌, ◌++◌, List, [], ◌∷◌, ap, ap₂}
+use Rattle.s66_line.specs.{instrs_of}
 use Rattle.s66_time.specs.Ordered.{Ordered}
-use Rattle.s66_line.specs.Blocks.{instrs_of}
-use Rattle.s66_views.specs.FoundOrders.{FoundOrder}
-use Rattle.s66_answer.specs.Stored.{answer_in}
-use Rattle.s66_program.specs.BestReasons.{best_reasons}
+use Rattle.s66_views.specs.{FoundOrder}
+use Rattle.s66_answer.specs.{answer_in}
+use Rattle.s66_program.specs.{best_reasons}
 use Rattle.s66_program.proofs.page_text.ViewsKeepFoundOrder.keep.Goals as goal
 
 pub returns : goal.returns

@@ -1,5 +1,5 @@
 use Rattle.std.proofs.Common.{◌∙◌, ◌++◌, ap}
-use Rattle.s66_cert.specs.Documents.{Document, document_text}
+use Rattle.s66_cert.specs.{Document, document_text}
 use Rattle.s66_program.proofs.prove_text.DocumentsKeepU8.keep.Goals as goal
 
 pub returns : goal.returns

@@ -1,11 +1,10 @@
 use Rattle.std.proofs.Common.{ℕ, ◌∙◌, ◌≡◌, ◌++◌, List, ap, ap₂, append_assoc}
-use Rattle.s66_isa.specs.declared.profile.Profile.{Profile}
+use Rattle.s66_isa.specs.{Profile}
+use Rattle.s66_line.specs.{instrs_of}
 use Rattle.s66_time.specs.Ordered.{Ordered}
 use Rattle.s66_time.specs.TimedOrder.{TimedOrder}
-use Rattle.s66_line.specs.Blocks.{instrs_of}
-use Rattle.s66_answer.specs.Stored.{answer_in}
-use Rattle.s66_program.specs.BestReasons.{best_reasons}
-use Rattle.s66_program.specs.WhyText.{waits_lines}
+use Rattle.s66_answer.specs.{answer_in}
+use Rattle.s66_program.specs.{best_reasons, waits_lines}
 use Rattle.s66_program.proofs.why_text.WaitsKeepU8.keep.Goals as goal
 
 pub time-timed-requires : goal.time-timed-requires
