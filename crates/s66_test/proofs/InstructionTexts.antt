@@ -1,10 +1,8 @@
 -- Texts that pass the test one after the other are all those of instructions.
-use Rattle.std.proofs.Common.{ℕ, ◌+◌, ◌≡◌, ◌≤◌, ◌<◌, ◌∙◌, List, ◌∷◌, inl, inr, length, map, drop, ap, sym, subst, slice_index_or}
+use Rattle.std.proofs.Common.{ℕ, ◌+◌, ◌≡◌, ◌≤◌, ◌<◌, ◌∙◌, List, ◌∷◌, inl, inr, length, map, drop, ap, sym, subst, slice_index_or, Global, Vec}
 use Rattle.std.proofs.lemmas.List.{at_drop_all, drop_more}
-use Rattle.std.specs.declared.alloc.Global.{Global}
-use Rattle.std.specs.declared.vec.Vec.{Vec}
-use Rattle.s66_isa.specs.Lists.{Among}
-use Rattle.s66_line.specs.InstructionText.{IsInstruction}
+use Rattle.s66_isa.specs.{Among}
+use Rattle.s66_line.specs.{IsInstruction}
 
 abbrev pub AreInstructions : List (Vec ℕ Global) → Type 0
 AreInstructions texts = (text : List ℕ) → Among text (map (λ (t : Vec ℕ Global). t.items) texts) → IsInstruction text

@@ -1,7 +1,7 @@
 //! Blocks, each the only one of a source, and what is read of one.
 
 ghost use Rattle.std.specs.Prelude.{◌≡◌};
-ghost use Rattle.s66_line.specs.Blocks.{instrs_of};
+ghost use Rattle.s66_line.specs.{instrs_of};
 
 use s66_isa::Profile;
 use s66_line::Block;

@@ -1,7 +1,7 @@
 //! Commands as values, and how a test runs one; for other tests.
 
 ghost use Rattle.std.specs.Prelude.{◌≤◌};
-ghost use Rattle.s66_model.specs.declared.limits.TheConstants.{BUDGET_LIMIT, WORKERS_LIMIT};
+ghost use Rattle.s66_model.specs.{BUDGET_LIMIT, WORKERS_LIMIT};
 
 use s66_device::{OverRead, OverWrite};
 use s66_model::{Options, Rule};

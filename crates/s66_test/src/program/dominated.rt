@@ -1,7 +1,7 @@
 //! Tests of dominated leaves: what `check` says of altered names, and what `order` leaves out.
 
 ghost use Rattle.std.specs.Prelude.{◌≤◌};
-ghost use Rattle.s66_model.specs.declared.limits.TheConstants.{WORKERS_LIMIT};
+ghost use Rattle.s66_model.specs.{WORKERS_LIMIT};
 
 use crate::THREE_ALIKE;
 use crate::program::commands::{PLAIN_CHECK, check_output, order_by, prove_by};

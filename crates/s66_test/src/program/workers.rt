@@ -1,7 +1,7 @@
 //! Tests that `order` and `prove` give the same by any number of workers.
 
 ghost use Rattle.std.specs.Prelude.{◌≤◌};
-ghost use Rattle.s66_model.specs.declared.limits.TheConstants.{WORKERS_LIMIT};
+ghost use Rattle.s66_model.specs.{WORKERS_LIMIT};
 
 use crate::MULTIPLIES;
 use crate::program::commands::{PLAIN_CHECK, check_output, order_by, prove_by, run};

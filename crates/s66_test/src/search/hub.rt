@@ -1,7 +1,7 @@
 //! Tests of each call of a hub. Other tests use its calls.
 
 ghost use Rattle.std.specs.Prelude.{◌≡◌, ◌≤◌, All};
-ghost use Rattle.s66_model.specs.declared.limits.TheConstants.{BUDGET_LIMIT};
+ghost use Rattle.s66_model.specs.{BUDGET_LIMIT};
 
 use crate::blocks::{MULTIPLIES, ONE_LOAD};
 use crate::search::expansion::piece_of;

@@ -1,9 +1,8 @@
 //! Which texts are instructions, and the block that such texts make.
-ghost use Rattle.std.specs.Prelude.{ℕ, List, map, IsTrue};
+ghost use Rattle.std.specs.Prelude.{ℕ, List, map, IsTrue, Vec};
 ghost use Rattle.std.specs.declared.alloc.Global.{Global};
-ghost use Rattle.std.specs.declared.vec.Vec.{Vec};
-ghost use Rattle.s66_isa.specs.Lists.{Among};
-ghost use Rattle.s66_line.specs.InstructionText.{IsInstruction};
+ghost use Rattle.s66_isa.specs.{Among};
+ghost use Rattle.s66_line.specs.{IsInstruction};
 
 use crate::blocks::as_written;
 use s66_isa::{BLOCK_LIMIT, Profile};

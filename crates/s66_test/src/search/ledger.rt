@@ -1,7 +1,7 @@
 //! Tests of a ledger: its history, event by event, and its end wherever a search stops. Other tests use its calls.
 
 ghost use Rattle.std.specs.Prelude.{◌≡◌, ◌≤◌};
-ghost use Rattle.s66_model.specs.declared.limits.TheConstants.{BUDGET_LIMIT};
+ghost use Rattle.s66_model.specs.{BUDGET_LIMIT};
 
 use crate::blocks::{MULTIPLIES, as_written};
 use crate::search::expansion::piece_of;

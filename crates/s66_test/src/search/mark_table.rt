@@ -1,8 +1,8 @@
 //! Tests of a table of marks: what is found in it, kept, settled and forgotten.
 
 ghost use Rattle.std.specs.Prelude.{◌≡◌};
-ghost use Rattle.s66_isa.specs.Table.{standard};
-ghost use Rattle.s66_line.specs.Blocks.{instrs_of};
+ghost use Rattle.s66_isa.specs.{standard};
+ghost use Rattle.s66_line.specs.{instrs_of};
 
 use crate::blocks::LATE_READER;
 use crate::search::reading::{block_of, source_of};

@@ -1,7 +1,7 @@
 //! Tests of the greatest path of what remains, against the plain form of `plain_paths.rt`.
 
 ghost use Rattle.std.specs.Prelude.{◌≡◌, length};
-ghost use Rattle.s66_line.specs.Blocks.{instrs_of};
+ghost use Rattle.s66_line.specs.{instrs_of};
 
 use crate::blocks::{MULTIPLIES, ONE_LOAD};
 use crate::search::plain_paths::{plain_bound, plain_tails};

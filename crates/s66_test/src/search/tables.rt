@@ -1,7 +1,7 @@
 //! Workers whose tables of marks are full, empty or wrong: what they hand in covers the same orders, and `finish` answers as ever.
 ghost use Rattle.std.specs.Prelude.{◌≡◌, ◌≤◌};
-ghost use Rattle.s66_isa.specs.Table.{standard};
-ghost use Rattle.s66_line.specs.Blocks.{instrs_of};
+ghost use Rattle.s66_isa.specs.{standard};
+ghost use Rattle.s66_line.specs.{instrs_of};
 
 use crate::blocks::THREE_ALIKE;
 use crate::search::ledger::{check_finished, check_grant, finished};

@@ -1,7 +1,7 @@
 //! A walk through all legal orders of a block that compares the clock with its plain form at each step; for other tests.
 
 ghost use Rattle.std.specs.Prelude.{◌≡◌, ◌++◌, [], ◌∷◌, IsTrue};
-ghost use Rattle.s66_time.specs.Ticking.{problem_of};
+ghost use Rattle.s66_time.specs.{problem_of};
 
 use crate::search::plain_clock::PlainClock;
 use s66_isa::{Bank, KINDS, Profile, Reg};

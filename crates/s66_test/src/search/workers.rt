@@ -1,7 +1,7 @@
 //! Tests of whole searches by several workers: what they find, and that they share the work.
 
 ghost use Rattle.std.specs.Prelude.{◌≤◌};
-ghost use Rattle.s66_model.specs.declared.limits.TheConstants.{BUDGET_LIMIT, WORKERS_LIMIT};
+ghost use Rattle.s66_model.specs.{BUDGET_LIMIT, WORKERS_LIMIT};
 
 use crate::blocks::{MULTIPLIES, SEVEN_ALIKE, SEVEN_MULTIPLIES};
 use crate::search::gates::{Meeting, Watch};

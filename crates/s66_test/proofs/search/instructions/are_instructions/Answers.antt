@@ -1,5 +1,5 @@
 use Rattle.std.proofs.Common.{rules}
-use Rattle.s66_line.specs.InstructionText.{IsInstruction}
+use Rattle.s66_line.specs.{IsInstruction}
 use Rattle.s66_test.proofs.InstructionTexts.{instructions-here, instructions-past}
 use Rattle.s66_test.proofs.search.instructions.are_instructions.Goals as goal
 

@@ -1,6 +1,6 @@
 use Rattle.std.proofs.Common.{◌≡◌}
-use Rattle.s66_isa.specs.Table.{standard}
-use Rattle.s66_line.specs.Blocks.{instrs_of}
+use Rattle.s66_isa.specs.{standard}
+use Rattle.s66_line.specs.{instrs_of}
 use Rattle.s66_test.proofs.search.tables.search_by.Given as goal
 
 abbrev pub invariant-loop : goal.invariant-loop

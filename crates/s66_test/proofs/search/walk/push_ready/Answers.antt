@@ -1,7 +1,7 @@
 use Rattle.std.proofs.Common.{◌∙◌, sym, ap}
-use Rattle.s66_line.specs.Blocks.{Block, instrs_of}
-use Rattle.s66_model.specs.LegalOrder.{is_ready}
-use Rattle.s66_isa.specs.Members.{numbers_in}
+use Rattle.s66_isa.specs.{numbers_in}
+use Rattle.s66_model.specs.{is_ready}
+use Rattle.s66_line.specs.{Block, instrs_of}
 use Rattle.s66_time.proofs.Readiness.{has-ready_same}
 use Rattle.s66_test.proofs.search.walk.push_ready.Goals as goal
 

@@ -1,7 +1,6 @@
 use Rattle.std.proofs.Common.{ℕ, ◌≡◌, ◌<◌, ◌∙◌, List, [], ◌∷◌, length, refl, sym, arith, inl, true≢false}
-use Rattle.s66_isa.specs.Lists.{has}
+use Rattle.s66_isa.specs.{has, numbers_in}
 use Rattle.s66_isa.proofs.Lists.{among-has}
-use Rattle.s66_isa.specs.Members.{numbers_in}
 use Rattle.s66_test.proofs.search.walk.undo_last.Goals as goal
 
 some-there : (xs ys : List ℕ) → ((m : ℕ) → has m xs ≡ has m ys) → 0 < length xs → 0 < length ys
