@@ -1,10 +1,7 @@
 -- In source order each number is ready when it comes.
-use Rattle.std.proofs.Common.{ℕ, zero, suc, ◌+◌, ◌<◌, ◌≡◌, true, List, [], ◌∷◌, ◌++◌, length, subst, sym, arith, append_assoc}
-use Rattle.std.proofs.lemmas.List.{append-nil}
-use Rattle.s66_isa.specs.declared.instr.Instr.{Instr}
-use Rattle.s66_isa.specs.Lists.{rising}
-use Rattle.s66_isa.specs.Table.{numbers}
-use Rattle.s66_model.specs.LegalOrder.{is_ready, GoesOn, IsBeginning, IsLegal}
+use Rattle.std.proofs.Common.{ℕ, zero, suc, ◌+◌, ◌<◌, ◌≡◌, true, List, [], ◌∷◌, ◌++◌, length, subst, sym, arith, append_assoc, append-nil}
+use Rattle.s66_isa.specs.{Instr, rising, numbers}
+use Rattle.s66_model.specs.{is_ready, GoesOn, IsBeginning, IsLegal}
 use Rattle.s66_model.proofs.Beginnings.{source-legal, front-beginning}
 
 goes-rising : (block : List Instr) (prefix : List ℕ) (k low i : ℕ) → GoesOn block prefix (rising k low) → i < k → is_ready block (prefix ++ rising i low) (low + i) ≡ true

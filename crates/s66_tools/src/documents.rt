@@ -1,5 +1,5 @@
 //! Calls for `tools/refused.py` that search by workers, make the document of an answer, read documents, and run `sum`.
-ghost use Rattle.std.specs.Prelude.{◌+◌, ◌<◌};
+ghost use Rattle.std.specs.Prelude.{◌+◌, ◌<◌, None};
 
 use crate::calls::Answered;
 use crate::sources::{block_of, source_of};
@@ -74,8 +74,6 @@ struct Counts {
 }
 
 impl Sink for Counts {
-    ghost use Rattle.std.specs.Prelude.{None};
-
     ghost seen = { λ _. record { bytes = None; failures = 0 } };
 
     fn sink(&mut self, text: &[u8]) -> Result<usize, Failed> {

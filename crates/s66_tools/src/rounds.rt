@@ -1,7 +1,7 @@
 //! Pushes and undoes of a clock, so often as a mode says, to be measured.
 
 ghost use Rattle.std.specs.Prelude.{◌≡◌, ◌≤◌, [], length};
-ghost use Rattle.s66_line.specs.Blocks.{instrs_of};
+ghost use Rattle.s66_line.specs.{instrs_of};
 
 use s66_isa::{BLOCK_LIMIT, Profile};
 use s66_line::Block;

@@ -1,7 +1,7 @@
 //! Whole searches, by one thread and by workers, to be measured.
 
 ghost use Rattle.std.specs.Prelude.{◌≤◌};
-ghost use Rattle.s66_model.specs.declared.limits.TheConstants.{BUDGET_LIMIT};
+ghost use Rattle.s66_model.specs.{BUDGET_LIMIT};
 
 use crate::tree::Counts;
 use s66_isa::Profile;

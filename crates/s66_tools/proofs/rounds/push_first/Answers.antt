@@ -1,9 +1,9 @@
 use Rattle.std.proofs.Common.{ℕ, ◌+◌, ◌++◌, ◌∷◌, [], List, ◌≡◌, length, subst, sym, ap, arith, true, ◌∙◌}
-use Rattle.s66_line.specs.Blocks.{instrs_of, Block}
-use Rattle.s66_model.specs.LegalOrder.{is_ready}
+use Rattle.s66_model.specs.{is_ready}
 use Rattle.s66_model.proofs.Beginnings.{length-rising}
-use Rattle.s66_time.proofs.OrderNumbers.{rising-more}
+use Rattle.s66_line.specs.{instrs_of, Block}
 use Rattle.s66_time.specs.Ticking.{Ticking}
+use Rattle.s66_time.proofs.OrderNumbers.{rising-more}
 use Rattle.s66_tools.proofs.SourceOrder.{source-ready}
 use Rattle.s66_tools.proofs.rounds.push_first.Goals as goal
 

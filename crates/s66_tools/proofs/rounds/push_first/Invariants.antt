@@ -1,5 +1,5 @@
 use Rattle.std.proofs.Common.{◌≡◌}
-use Rattle.s66_isa.specs.Lists.{rising}
+use Rattle.s66_isa.specs.{rising}
 use Rattle.s66_tools.proofs.rounds.push_first.Given as goal
 
 abbrev pub invariant-loop-position : goal.invariant-loop-position
