@@ -1,6 +1,7 @@
 -- Used by contracts within the crate alone: the marks of lines, without where they lie in memory, and a source with switches that is
 -- printed so far.
-use Rattle.std.specs.Prelude.{◌≡◌, ◌+◌, ◌++◌, ℕ, List, [], ◌∷◌, map, Vec}
+use Rattle.std.specs.Prelude.{◌≡◌, ◌+◌, ◌++◌, ℕ, List, [], ◌∷◌, map}
+use Rattle.std.specs.Global.{Vec}
 use Rattle.s66_isa.specs.{tally}
 use Rattle.s66_lint.specs.Guarded.{Mark, GuardedLine, is_end, is_guarded, guarded_text, unmarked}
 use Rattle.s66_lint.specs.declared.guard.guard.Guarded.{Guarded}

@@ -1,4 +1,5 @@
-use Rattle.std.proofs.Common.{◌≡◌, ℕ, Bool, List, Ok, ap, subst, sym, Vec}
+use Rattle.std.proofs.Common.{◌≡◌, ℕ, Bool, List, Ok, ap, subst, sym}
+use Rattle.std.specs.Global.{Vec}
 use Rattle.s66_command.specs.{Asked}
 use Rattle.s66_line.specs.{Block}
 use Rattle.s66_source.specs.{blocks_of, classed_lines, source_of}

@@ -1,4 +1,5 @@
-use Rattle.std.proofs.Common.{◌≡◌, ◌+◌, ◌++◌, ◌∷◌, ℕ, suc, List, [], drop, map, sym, ap, ap₂, ◌∙◌, arith, drop-cons, Vec}
+use Rattle.std.proofs.Common.{◌≡◌, ◌+◌, ◌++◌, ◌∷◌, ℕ, suc, List, [], drop, map, sym, ap, ap₂, ◌∙◌, arith, drop-cons}
+use Rattle.std.specs.Global.{Vec}
 use Rattle.s66_lint.specs.{Begins, GuardedLine, guarded_text, reason_texts}
 use Rattle.s66_lint.proofs.GuardPrinting.{text-more}
 use Rattle.s66_lint.proofs.guard.guard.push_beginnings.Goals as goal
