@@ -32,7 +32,9 @@ LABEL = re.compile(r"(^ +(?:pub )?|[{;] *)[A-Za-z][\w'-]*(?= [:=] )", re.MULTILI
 IMPORTED = re.compile(r"^ *(?:ghost )?use Rattle\.(s66_\w+)\.specs(?:\.(\w+))?\.\{([^}]*)\}", re.MULTILINE)
 DECLARED = re.compile(r"^use Rattle\.(s66_\w+)\.specs\.declared\.(\w+)\.(\w+)", re.MULTILINE)
 RENAMED = re.compile(r"^use Rattle\.(s66_\w+)\.specs\.(\w+) as (\w+)$", re.MULTILINE)
-PASSED_ON = re.compile(r"^pub use declared\.(\w+)\.(\w+)(?:\.TheVariants)?\.\{([^}]*)\}", re.MULTILINE)  # in a crate's Lib.antt
+# in a crate's specs/Lib.antt: from which file it passes on names of definitions, and from which module and type those of the code
+PASSED_ON = re.compile(r"^(?:unfoldable )?pub use (\w+)\.\{([^}]*)\}", re.MULTILINE)
+PASSED_TYPES = re.compile(r"^pub use declared\.(\w+)\.(\w+)(?:\.TheVariants)?\.\{([^}]*)\}", re.MULTILINE)
 EMPTY = re.compile(r"((?:^///.*\n)+)(?:^#\[.*\n)*^pub fn (\w+)\(\)\n((?:^ .*\n)+)^\{\}$", re.MULTILINE)
 TYPE = r"((?:^///.*\n)+)(?:^#\[.*\n)*^pub(?:\(\w+\))? (struct|enum) %s\b(?:.*\{\n((?:(?!\}).*\n)*))?"
 CASE = re.compile(r"((?:^    ///.*\n)*)(?:^    #\[.*\n)*^    (\w+)", re.MULTILINE)
@@ -106,7 +108,7 @@ def patterns(text):
 
 
 def arguments(text):
-    """Of each argument of a type, without those that are implicit, a short name: the first word of its type."""
+    """Of each argument of a type, without those that are implicit, a short name: the last word in the name of its type."""
     found, depth, start = [], 0, 0
     for place, letter in enumerate(text):
         depth += (letter in "([{") - (letter in ")]}")
@@ -114,7 +116,7 @@ def arguments(text):
             found.append(text[start:place].strip())
             start = place + 1
     words = [re.search(r"\w+", of) for of in found if not of.startswith("{")]
-    return ["n" if word is None or word[0] == "ℕ" else word[0].lower() for word in words]
+    return ["n" if word is None or word[0] == "ℕ" else re.split(r"(?<!^)(?=[A-Z])", word[0])[-1].lower() for word in words]
 
 
 class Definition:
@@ -216,17 +218,13 @@ def types_in(text, offers):
 
 
 class Offers:
-    """What a crate's specs/Lib.antt passes on of its files and of its types, by the names."""
+    """What is imported from a crate itself, as its specs/Lib.antt names it: definitions and types of the code, by their names."""
 
-    def __init__(self, crate, files):
-        self.definitions, self.types = {}, {}
-        for definition, file in ((definition, file) for file in files for definition in file.definitions()):
-            cases = [part for part, _ in definition.parts()] if definition.kind == "data" else []
-            self.definitions.update({name: (crate, file.name, name) for name in (definition.name, *cases)})
-        lib = f"crates/{crate}/specs/Lib.antt"
-        text = read(lib) if os.path.exists(os.path.join(ROOT, lib)) else ""
-        for module, name, words in PASSED_ON.findall(text):
-            self.types.update({word: (crate, module, name) for word in names_in(words)})
+    def __init__(self, crate):
+        path = f"crates/{crate}/specs/Lib.antt"
+        text = read(path) if os.path.exists(os.path.join(ROOT, path)) else ""
+        self.definitions = {name: (crate, file, name) for file, words in PASSED_ON.findall(text) for name in names_in(words)}
+        self.types = {name: (crate, *of) for *of, words in PASSED_TYPES.findall(text) for name in names_in(words)}
 
 
 class Specs:
@@ -293,11 +291,10 @@ class House:
     """The specs files of all crates, in the order in which each crate lists them."""
 
     def __init__(self):
-        self.specs, self.offers = {}, {}
+        self.specs, self.offers = {}, {crate: Offers(crate) for crate in crates()}
         for crate in crates():
-            files = [Specs(crate, name, self.offers) for name in files_in(crate, "specs")]
-            self.specs.update({(crate, file.name): file for file in files})
-            self.offers[crate] = Offers(crate, files)
+            for name in files_in(crate, "specs"):
+                self.specs[crate, name] = Specs(crate, name, self.offers)
         self.owners = {}  # of each case of a type, the type
         for (crate, name), specs in self.specs.items():
             for definition in specs.definitions():

@@ -23,8 +23,7 @@ ITEM = re.compile(r"pub (?:const fn|fn|struct|enum|trait|const|type) (\w+)")
 TYPE = re.compile(r"(?:pub(?:\(crate\))? )?(?:struct|enum|trait) (\w+)")
 IMPL = re.compile(r"impl(?:<[^{]*?>)? (?:[\w:]+(?:<[^{]*>)? for )?(\w+)")
 MEMBER = re.compile(r"    pub (?!use)")
-PASSED_ON = re.compile(r"^(?:unfoldable )?pub use [\w.]+\.\{([^}]*)\}", re.MULTILINE)
-FROM_CRATE = re.compile(r"use Rattle\.(\w+)\.specs\.\{([^}]*)\}")
+PASSED_ON = re.compile(r"^(?:unfoldable )?pub use ([^\n]*)", re.MULTILINE)
 COMMENT = re.compile(r"^ *(//|--).*", re.MULTILINE)
 
 
@@ -104,29 +103,28 @@ def unused(crate):
                     yield path, text, use.start(), name
 
 
-def split(words):
-    return [word.split(" as ")[0].strip() for word in words.split(",")]
-
-
 def from_crates():
-    """What all files import from crates, as the crate and the name."""
-    paths = files(os.path.join(ROOT, "crates/*"), "src/**/*.rt", "specs/**/*.antt", "proofs/**/*.antt")
-    return {(crate, name) for path in paths for crate, words in FROM_CRATE.findall(read(path)) for name in split(words)}
+    """What all files import from a crate itself and not from one of its files, as the crate and the name there."""
+    for path in files(os.path.join(ROOT, "crates/*"), "src/**/*.rt", "specs/**/*.antt", "proofs/**/*.antt"):
+        for use in (USE if path.endswith(".rt") else LOGIC_USE).finditer(read(path)):
+            for parts, _ in names_of(use.group(2)):
+                if len(parts) == 4 and parts[0] == "Rattle" and parts[2] == "specs":
+                    yield parts[1], parts[3]
 
 
 def idle(crate, imported):
     """What its specs/Lib.antt passes on for nobody: the file, its text, the place and the name there."""
     for path in files(crate, "specs/Lib.antt"):
         text = read(path)
-        for line in PASSED_ON.finditer(text):
-            for name in split(line.group(1)):
+        for use in PASSED_ON.finditer(text):
+            for _, name in names_of(use.group(1)):
                 if (os.path.basename(crate), name) not in imported:
-                    yield path, text, line.start(), name
+                    yield path, text, use.start(), name
 
 
 def wrong():
     """What is otherwise than it is to be, told line by line."""
-    imported = from_crates()
+    imported = set(from_crates())
     for crate in sorted(glob.glob(os.path.join(ROOT, "crates/*"))):
         for path, text, place, name in too_public(crate):
             yield shown(path, text, place, f"{name} is public, and lib.rt doesn't export it")
