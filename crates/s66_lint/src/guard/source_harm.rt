@@ -88,23 +88,23 @@ pub(crate) fn source_harm(alloc: Global, text: &[u8]) -> Result<SourceHarm, Allo
     let read = Lines::of(alloc, text, letters.as_slice(), &redefined)?;
     let lines = read.lines.as_slice();
     let deck = Deck::of(alloc, lines, read.alone.as_slice())?;
-    let rules = Rules::of(alloc, deck, redefined)?;
-    let mut tracker = Tracker::new(alloc, true);
-    let mut findings = Vec::new(alloc);
-    let mut texts = Vec::new(alloc);
-    for (at, line) in lines.iter().enumerate() {
-        for found in rules.findings_of(&mut tracker, at, line)? {
-            push_harming(&mut findings, &mut texts, at, found)?;
-        }
-    }
-    let changing = Changing::of(alloc, lines, rules.deck.runs())?;
+    harm_by(alloc, &Rules::of(alloc, deck, redefined)?, lines)
+}
+
+/// The harm that these rules find in these lines.
+fn harm_by<'a>(
+    alloc: Global,
+    rules: &Rules<'a>,
+    lines: &'a [Line<'a>],
+) -> Result<SourceHarm, AllocError> {
     let mut harms = SourceHarm {
-        changing,
+        changing: Changing::of(alloc, lines, rules.deck.runs())?,
         lines: Vec::new(alloc),
-        findings,
-        texts,
-        runs: tracker.into_runs(),
+        findings: Vec::new(alloc),
+        texts: Vec::new(alloc),
+        runs: Vec::new(alloc),
     };
+    harms.take_findings(alloc, rules, lines)?;
     harms.look_at_lines(alloc, lines)?;
     Ok(harms)
 }
@@ -136,6 +136,22 @@ fn push_harming(
 }
 
 impl SourceHarm {
+    fn take_findings<'a>(
+        &mut self,
+        alloc: Global,
+        rules: &Rules<'a>,
+        lines: &'a [Line<'a>],
+    ) -> Result<(), AllocError> {
+        let mut tracker = Tracker::new(alloc, true);
+        for (at, line) in lines.iter().enumerate() {
+            for found in rules.findings_of(&mut tracker, at, line)? {
+                push_harming(&mut self.findings, &mut self.texts, at, found)?;
+            }
+        }
+        self.runs = tracker.into_runs();
+        Ok(())
+    }
+
     fn look_at_lines(&mut self, alloc: Global, lines: &[Line]) -> Result<(), AllocError> {
         let harmed = harmed_runs(alloc, self.changing.count(), self.runs.as_slice())?;
         for (at, line) in lines.iter().enumerate() {
