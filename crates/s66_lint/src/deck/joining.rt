@@ -109,7 +109,7 @@ impl OpenWord {
 }
 
 fn is_transfer(line: &Line) -> bool {
-    matches!(line.operation(), b"RE" | b"WE")
+    crate::line::is_transfer(line.operation())
 }
 
 /// Whether a line leaves the second half of its word to the next.
@@ -118,9 +118,6 @@ fn shares_word(line: &Line, next: Option<&Line>) -> bool {
         return false;
     };
     line.may_join()
-        && match line.operation() {
-            b"RJ" => next.joins(),
-            b"RE" | b"WE" => next.may_join(),
-            _ => false,
-        }
+        && (is_transfer(line) && next.may_join()
+            || line.operation() == b"RJ".as_slice() && next.joins())
 }

@@ -81,7 +81,7 @@ struct StatementForm {
 impl StatementForm {
     fn of(line: &Line) -> StatementForm {
         let content = Content::of(line);
-        let is_entry = matches!(line.operation(), b"PS" | b"SUBR");
+        let is_entry = crate::line::is_entry(line.operation());
         StatementForm {
             content,
             begins: line.begins_word(),

@@ -1,7 +1,10 @@
 //! A line by itself as `lint` sees it: its fields, and what kind of statement it is. What lines around it say is in `deck/`.
 
 use crate::line::operand::{decimal, has_registers_alone};
-use crate::line::operations::{falls_through, has_address, is_wordless, makes_words, renames};
+use crate::line::operations::{
+    equates, falls_through, has_address, is_constant, is_wordless, leaves_word, makes_words,
+    renames, reserves,
+};
 use crate::line::spelling::{is_instruction_name, is_register};
 use s66_line::{
     Class, LINE_BYTES_LIMIT, TEXT_LIMIT, body_of, classify, fields_of, is_comment_line,
@@ -230,25 +233,21 @@ impl<'a> Line<'a> {
 
     /// Whether it is an unconditional jump, or the entry of a subroutine, behind which the next word begins.
     pub(crate) fn is_jump(&self) -> bool {
-        match self.operation() {
-            b"PS" | b"SUBR" | b"RJ" | b"JP" => true,
-            b"EQ" => !self.has_comma(),
-            _ => false,
-        }
+        let operation = self.operation();
+        leaves_word(operation) || operation == b"EQ".as_slice() && !self.has_comma()
     }
 
     /// Whether it is data of one word.
     pub(crate) fn is_data_word(&self) -> bool {
-        match self.operation() {
-            b"BSS" | b"BSSZ" => self.fields.operand == b"1".as_slice(),
-            b"CON" | b"DATA" => !self.has_comma(),
-            _ => false,
-        }
+        let operation = self.operation();
+        reserves(operation) && self.fields.operand == b"1".as_slice()
+            || is_constant(operation) && !self.has_comma()
     }
 
     /// Whether it is data that may stand in line with code.
     pub(crate) fn is_data_part(&self) -> bool {
-        self.may_join() && matches!(self.operation(), b"VFD" | b"CON" | b"DATA")
+        let operation = self.operation();
+        self.may_join() && (operation == b"VFD".as_slice() || is_constant(operation))
     }
 
     /// Whether it makes one word, in which nothing else stands.
@@ -277,7 +276,7 @@ impl<'a> Line<'a> {
 
     /// How many words further than the line itself the address is that its operand gives its name.
     pub(crate) fn words_from_here(&self) -> i64 {
-        if !matches!(self.operation(), b"EQU" | b"=") {
+        if !equates(self.operation()) {
             return 0;
         }
         match self.fields.operand {

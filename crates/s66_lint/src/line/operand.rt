@@ -2,22 +2,32 @@
 
 use crate::line::spelling::{is_index, is_register};
 use s66_line::is_decimal_digit;
-use s66_source::are_digits;
+use s66_source::{are_digits, is_one_of};
 use std::alloc::{AllocError, Global};
 
-pub(crate) fn is_sign(byte: u8) -> bool {
-    byte == b'+' || byte == b'-'
+pub(crate) fn is_sign(byte: &u8) -> bool {
+    matches!(byte, b'+' | b'-')
+}
+
+pub(crate) fn is_comma(byte: &u8) -> bool {
+    *byte == b','
 }
 
 /// Whether a byte ends a name in an operand.
-pub(crate) fn ends_name(byte: u8) -> bool {
-    is_sign(byte) || byte == b'*' || ends_sum(byte)
+pub(crate) fn ends_name(byte: &u8) -> bool {
+    is_sign(byte) || *byte == b'*' || ends_sum(byte)
 }
 
 /// Whether a byte ends a sum in an operand.
-pub(crate) fn ends_sum(byte: u8) -> bool {
+pub(crate) fn ends_sum(byte: &u8) -> bool {
     matches!(byte, b',' | b'/' | b'(' | b')')
 }
+
+/// The address of the line itself.
+const HERE: [&[u8]; 5] = [b"*", b"*L", b"*O", b"*P", b"$"];
+
+/// What makes an address no address of code.
+const HIGH: [&[u8]; 2] = [b"1S17", b"400000B"];
 
 /// A term of a sum, in upper case.
 #[derive(Clone, Copy)]
@@ -38,12 +48,12 @@ impl<'a> Term<'a> {
 
     /// Whether it is the address of the line itself.
     pub(crate) fn is_here(&self) -> bool {
-        matches!(self.bytes, b"*" | b"*L" | b"*O" | b"*P" | b"$")
+        is_one_of(&HERE, self.bytes)
     }
 
     /// Whether it makes an address no address of code.
     pub(crate) fn is_high(&self) -> bool {
-        matches!(self.bytes, b"1S17" | b"400000B")
+        is_one_of(&HIGH, self.bytes)
     }
 
     /// A number with its sign.
@@ -99,7 +109,7 @@ pub(crate) fn terms_of<'a>(alloc: Global, sum: &'a [u8]) -> Result<Vec<Term<'a>>
     };
     let mut terms = Vec::new(alloc);
     let mut end: usize = 0;
-    for bytes in unsigned.split(|byte| is_sign(*byte)) {
+    for bytes in unsigned.split(is_sign) {
         if bytes.is_empty() {
             return Ok(Vec::new(alloc));
         }
@@ -125,8 +135,8 @@ pub(crate) fn names_nothing(operand: &[u8]) -> bool {
     if let [x, j, b'*', y, k] = unsigned {
         return is_register(&[*x, *j]) && is_register(&[*y, *k]);
     }
-    let mut names = unsigned.split(|byte| is_sign(*byte) || *byte == b',');
-    names.all(|name| is_register(name))
+    let mut names = unsigned.split(|byte| is_sign(byte) || *byte == b',');
+    names.all(is_register)
 }
 
 /// Whether an operand in upper case is a sum of registers, or none: an instruction with it has one parcel.
@@ -137,7 +147,7 @@ pub(crate) fn has_registers_alone(operand: &[u8]) -> bool {
     };
     let mut is_sum = true;
     let mut has_constant = false;
-    for term in unsigned.split(|byte| is_sign(*byte)) {
+    for term in unsigned.split(is_sign) {
         is_sum = is_sum && !term.is_empty();
         has_constant = has_constant || !is_register(term);
     }
@@ -168,16 +178,16 @@ pub(crate) fn is_name(bytes: &[u8]) -> bool {
 
 /// Whether an operand has another term than the first: a sign that isn't in front.
 pub(crate) fn has_other_term(operand: &[u8]) -> bool {
-    match operand.iter().position(|byte| !is_sign(*byte)) {
-        Some(first) => operand.iter().skip(first).any(|byte| is_sign(*byte)),
+    match operand.iter().position(|byte| !is_sign(byte)) {
+        Some(first) => operand.iter().skip(first).any(is_sign),
         None => false,
     }
 }
 
 /// Whether an operand in upper case names a B register.
 pub(crate) fn names_index(operand: &[u8]) -> bool {
-    let mut names = operand.split(|byte| ends_name(*byte));
-    names.any(|name| is_index(name))
+    let mut names = operand.split(ends_name);
+    names.any(is_index)
 }
 
 /// An operand without the plus signs in front.

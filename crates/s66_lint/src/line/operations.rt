@@ -2,6 +2,33 @@
 
 use s66_source::is_one_of;
 
+/// Branches without a condition; `EQ` is one if it compares nothing.
+const JUMPS: [&[u8]; 4] = [b"RJ", b"JP", b"EQ", b"XJ"];
+
+/// Jumps and the entry of a subroutine, behind which the next word begins whatever their operand is.
+const LEAVING: [&[u8]; 4] = [b"PS", b"SUBR", b"RJ", b"JP"];
+
+/// The entry of a subroutine.
+const ENTRIES: [&[u8]; 2] = [b"PS", b"SUBR"];
+
+/// Transfers of central memory.
+const TRANSFERS: [&[u8]; 2] = [b"RE", b"WE"];
+
+/// What ends a program.
+const ENDS: [&[u8]; 2] = [b"END", b"IDENT"];
+
+/// What gives an address another name.
+const RENAMING: [&[u8]; 3] = [b"EQU", b"=", b"SET"];
+
+/// Of these, those that do so for good.
+const EQUATES: [&[u8]; 2] = [b"EQU", b"="];
+
+/// What reserves words.
+const RESERVES: [&[u8]; 2] = [b"BSS", b"BSSZ"];
+
+/// What fills words with constants.
+const CONSTANTS: [&[u8]; 2] = [b"CON", b"DATA"];
+
 /// The conditional branches, but for `EQ`, which its operand tells.
 const CONDITIONAL: [&[u8]; 14] = [
     b"ZR", b"NZ", b"PL", b"NG", b"MI", b"IR", b"OR", b"DF", b"ID", b"NE", b"GE", b"GT", b"LT",
@@ -45,19 +72,44 @@ const DATA: [&[u8]; 8] = [
 /// Words of data, and the entry of a subroutine.
 const BEHIND_CODE: [&[u8]; 7] = [b"VFD", b"CON", b"DATA", b"BSS", b"BSSZ", b"DIS", b"PS"];
 
+pub(crate) fn is_entry(operation: &[u8]) -> bool {
+    is_one_of(&ENTRIES, operation)
+}
+
+pub(crate) fn is_transfer(operation: &[u8]) -> bool {
+    is_one_of(&TRANSFERS, operation)
+}
+
+/// Whether the next word begins behind an operation, whatever its operand is.
+pub(crate) fn leaves_word(operation: &[u8]) -> bool {
+    is_one_of(&LEAVING, operation)
+}
+
+pub(crate) fn equates(operation: &[u8]) -> bool {
+    is_one_of(&EQUATES, operation)
+}
+
+pub(crate) fn reserves(operation: &[u8]) -> bool {
+    is_one_of(&RESERVES, operation)
+}
+
+pub(crate) fn is_constant(operation: &[u8]) -> bool {
+    is_one_of(&CONSTANTS, operation)
+}
+
 pub(crate) fn is_branch(operation: &[u8]) -> bool {
-    matches!(operation, b"RJ" | b"JP" | b"EQ" | b"XJ") || is_one_of(&CONDITIONAL, operation)
+    is_one_of(&JUMPS, operation) || is_one_of(&CONDITIONAL, operation)
 }
 
 /// Whether the next instruction may be executed after a branch other than `EQ`, or central memory is transferred, which leaves a half
 /// word of its own.
 pub(crate) fn falls_through(operation: &[u8]) -> bool {
-    matches!(operation, b"RE" | b"WE") || is_one_of(&CONDITIONAL, operation)
+    is_transfer(operation) || is_one_of(&CONDITIONAL, operation)
 }
 
 /// Whether an operation is a branch, a transfer of central memory, or the entry of a subroutine.
 pub(crate) fn makes_words(operation: &[u8]) -> bool {
-    matches!(operation, b"PS" | b"SUBR" | b"RE" | b"WE") || is_branch(operation)
+    is_entry(operation) || is_transfer(operation) || is_branch(operation)
 }
 
 /// Whether data, or the entry of a subroutine, stands behind code that runs into it.
@@ -67,12 +119,12 @@ pub(crate) fn is_data(operation: &[u8]) -> bool {
 
 /// Whether an operation ends the search for a use of a register.
 pub(crate) fn ends_program(operation: &[u8]) -> bool {
-    matches!(operation, b"END" | b"IDENT")
+    is_one_of(&ENDS, operation)
 }
 
 /// Whether an operation gives another name to an address.
 pub(crate) fn renames(operation: &[u8]) -> bool {
-    matches!(operation, b"EQU" | b"=" | b"SET")
+    is_one_of(&RENAMING, operation)
 }
 
 pub(crate) fn begins_definition(operation: &[u8]) -> bool {

@@ -53,7 +53,7 @@ impl Registers {
     /// Those that an operand in upper case names.
     pub(crate) fn in_operand(operand: &[u8]) -> Registers {
         let mut registers = Registers::default();
-        for name in operand.split(|byte| ends_name(*byte)) {
+        for name in operand.split(ends_name) {
             registers = registers.with(&Registers::named(name));
         }
         registers
@@ -123,7 +123,7 @@ pub(crate) struct Access {
 /// The registers in the operand of an accepted instruction.
 fn named_in(operand: &[u8]) -> Registers {
     let mut registers = Registers::default();
-    for name in operand.split(|byte| is_sign(*byte) || matches!(*byte, b'*' | b'/' | b',')) {
+    for name in operand.split(|byte| is_sign(byte) || matches!(*byte, b'*' | b'/' | b',')) {
         registers = registers.with(&Registers::named(name));
     }
     registers

@@ -153,7 +153,7 @@ fn take_operand<'a>(
     at: usize,
     operand: &'a [u8],
 ) -> Result<(), AllocError> {
-    for sum in operand.split(|byte| ends_sum(*byte)) {
+    for sum in operand.split(ends_sum) {
         let terms = terms_of(alloc, sum)?;
         let mut end: Option<usize> = None;
         for term in terms.as_slice() {

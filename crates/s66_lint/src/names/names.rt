@@ -2,7 +2,7 @@
 
 use crate::deck::Deck;
 use crate::layout::Span;
-use crate::line::{Line, number_of};
+use crate::line::{Line, equates, number_of};
 use std::alloc::{AllocError, Global};
 use std::collections::BTreeMap;
 
@@ -191,9 +191,10 @@ impl<'a> Names<'a> {
     }
 
     fn take_value(&mut self, id: usize, line: &Line) {
-        let value = match line.operation() {
-            b"EQU" | b"=" => number_of(line.fields.operand),
-            _ => None,
+        let value = if equates(line.operation()) {
+            number_of(line.fields.operand)
+        } else {
+            None
         };
         if let Some(record) = self.records.get_mut(id) {
             record.places.end = record.places.end.saturating_add(1);

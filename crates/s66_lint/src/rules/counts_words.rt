@@ -3,7 +3,8 @@
 use crate::harm::Tracker;
 use crate::layout::{Extent, Span};
 use crate::line::{
-    Kind, Line, Term, ends_name, ends_sum, evaluates, is_branch, is_name, names_index, terms_of,
+    Kind, Line, Term, ends_name, ends_sum, evaluates, is_branch, is_comma, is_name, names_index,
+    terms_of,
 };
 use crate::names::{Code, Distance, are_many};
 use crate::rules::loads_stores::has_register;
@@ -39,7 +40,7 @@ impl<'a> Rules<'a> {
         line: &Line<'a>,
     ) -> Result<(), AllocError> {
         let operand = line.fields.operand;
-        for sum in operand.split(|byte| ends_sum(*byte)) {
+        for sum in operand.split(ends_sum) {
             let terms = terms_of(self.alloc, sum)?;
             self.harm_from_label(tracker, at, terms.as_slice())?;
         }
@@ -149,7 +150,7 @@ impl<'a> Rules<'a> {
         {
             return Ok(());
         }
-        for sum in line.fields.operand.split(|byte| *byte == b',') {
+        for sum in line.fields.operand.split(is_comma) {
             let terms = terms_of(self.alloc, sum)?;
             if is_from_here(terms.as_slice()) && !self.stays(at, line, sum) {
                 self.harm_sum_from_here(tracker, at, line, terms.as_slice())?;
@@ -293,7 +294,7 @@ impl<'a> Rules<'a> {
         operand: &'a [u8],
     ) -> Result<(), AllocError> {
         let program = self.deck.before(at).program;
-        for name in operand.split(|byte| ends_name(*byte)) {
+        for name in operand.split(ends_name) {
             if is_name(name) && !tracker.is_done() {
                 let places = self.names.places_of(name, program);
                 self.harm_reached(tracker, places)?;

@@ -25,7 +25,7 @@ struct OperandPart<'a> {
 /// The names in a part of an operand.
 fn names_in<'a>(alloc: Global, bytes: &'a [u8]) -> Result<Vec<Term<'a>>, AllocError> {
     let mut names = Vec::new(alloc);
-    for name in bytes.split(|byte| ends_name(*byte)) {
+    for name in bytes.split(ends_name) {
         if is_name(name) {
             names.push(Term {
                 is_subtracted: false,
@@ -102,7 +102,7 @@ impl<'a> Rules<'a> {
         at: usize,
         line: &Line<'a>,
     ) -> Result<(), AllocError> {
-        for sum in line.fields.operand.split(|byte| ends_sum(*byte)) {
+        for sum in line.fields.operand.split(ends_sum) {
             let part = OperandPart::of(self.alloc, sum)?;
             for term in part.terms.as_slice() {
                 self.harm_name(tracker, at, line, &part, term.bytes)?;

@@ -3,7 +3,7 @@
 use crate::deck::Deck;
 use crate::harm::Tracker;
 use crate::layout::Extent;
-use crate::line::{Line, begins_definition, ends_sum, terms_of};
+use crate::line::{Line, begins_definition, ends_sum, is_comma, terms_of};
 use crate::names::{Code, Names};
 use crate::rules::rules::Rules;
 use std::alloc::{AllocError, Global};
@@ -118,7 +118,7 @@ fn macro_name<'a>(line: &Line<'a>) -> Option<&'a [u8]> {
     if !line.fields.location.is_empty() {
         return Some(line.fields.location);
     }
-    line.fields.operand.split(|byte| *byte == b',').next()
+    line.fields.operand.split(is_comma).next()
 }
 
 /// The parameters that the line of a macro names, before its body is read; that of a deep one isn't, and a term may stand with each.
@@ -129,7 +129,7 @@ fn parameters_of<'a>(
 ) -> Result<Vec<Parameter<'a>>, AllocError> {
     let mut parameters = Vec::new(alloc);
     let mut is_name = line.fields.location.is_empty();
-    for text in line.fields.operand.split(|byte| *byte == b',') {
+    for text in line.fields.operand.split(is_comma) {
         if !is_name {
             parameters.push(Parameter {
                 name: around_equals(text).0,
@@ -262,7 +262,7 @@ fn passes_code<'a>(deck: &Deck<'a>, names: &Names<'a>, at: usize, line: &Line<'a
     if before.in_definition || !line.may_call() {
         return false;
     }
-    for argument in line.fields.operand.split(|byte| *byte == b',') {
+    for argument in line.fields.operand.split(is_comma) {
         let (_, value) = around_equals(argument);
         if names
             .code_of(without_parentheses(argument), before.program)
@@ -280,7 +280,7 @@ fn passes_code<'a>(deck: &Deck<'a>, names: &Names<'a>, at: usize, line: &Line<'a
 impl<'a> Macro<'a> {
     /// Reads an operand of the body.
     fn read_operand(&mut self, alloc: Global, operand: &[u8]) -> Result<(), AllocError> {
-        for sum in operand.split(|byte| ends_sum(*byte)) {
+        for sum in operand.split(ends_sum) {
             let terms = terms_of(alloc, sum)?;
             let mut has_term = false;
             let mut parameters = Parameters::none();
@@ -308,7 +308,7 @@ impl<'a> Macro<'a> {
     fn given(&self, operand: &[u8]) -> Parameters {
         let known = self.parameters.as_slice();
         let mut given = Parameters::none();
-        for (at, argument) in operand.split(|byte| *byte == b',').enumerate() {
+        for (at, argument) in operand.split(is_comma).enumerate() {
             if let Some(parameter) = known.get(at) {
                 if !argument.is_empty() {
                     given.put(place_in(known, parameter.name).unwrap_or(at));
@@ -362,7 +362,7 @@ impl<'a> Rules<'a> {
             return Ok(());
         };
         let given = called.given(line.fields.operand);
-        for (n, text) in line.fields.operand.split(|byte| *byte == b',').enumerate() {
+        for (n, text) in line.fields.operand.split(is_comma).enumerate() {
             let Some((place, argument)) = called.argument(n, text) else {
                 continue;
             };
