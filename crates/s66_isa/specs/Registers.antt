@@ -1,5 +1,4 @@
--- Used by contracts: registers by their indices, and a set of them in one word: a register is there if the bit of its index is
--- set.
+-- To be believed: registers by their indices, and a set of them in one word: a register is there if the bit of its index is set.
 use Rattle.std.specs.Prelude.{ℕ, zero, suc, ◌+◌, ◌*◌, ◌/◌, ◌%◌, ◌^◌, ◌==◌, Bool, List, ◌++◌, map, get_or, filter, bit_and}
 use Rattle.s66_isa.specs.Lists.{rising}
 use Rattle.s66_isa.specs.declared.reg.Bank.{Bank}
