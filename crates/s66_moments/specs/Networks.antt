@@ -1,4 +1,4 @@
--- Used by contracts of what computes floors and checks paths: networks of arcs, and the greatest path through one, by what follows each moment, which is known before anything is placed.
+-- To be believed: networks of arcs, and the greatest path through one, by what follows each moment, which is known before anything is placed.
 use Rattle.std.specs.Prelude.{ℕ, zero, suc, ◌+◌, ◌-◌, ◌*◌, ◌≡◌, ◌≤◌, ◌<◌, Bool, true, false, if◌then◌else◌, ◌||◌, ◌&&◌, ◌==◌, max, List, [], ◌∷◌, ◌++◌, map, length, Option, Some, None, unwrap_or}
 use Rattle.std.specs.Prelude.{is_some}
 use Rattle.s66_isa.specs.{Instr, greatest, some_of, tally, Among, Write, same_reg, numbers}
@@ -112,7 +112,7 @@ with_arc arcs e w f m n = if same_moment m e && same_moment n f then Some (max w
 
 -- j stands before k too, and so does all before j before all after k
 abbrev pub with_pair : (ℕ → ℕ → Bool) → ℕ → ℕ → ℕ → ℕ → Bool
-with_pair before j k m n = before m n || (m == j || before m j) && (n == k || before k n)
+with_pair before j k m n = before m n || ((m == j || before m j) && (n == k || before k n))
 
 -- what stands before what stands before a number, stands before it
 abbrev pub IsTransitive : Problem → (ℕ → ℕ → Bool) → Type 0
