@@ -4,7 +4,7 @@ use Rattle.std.proofs.lemmas.List.{length-map}
 use Rattle.s66_isa.specs.{Kind, least, weigh, Among, same_kind}
 use Rattle.s66_model.specs.{Problem, Point, row_at, copies, total_of, IsLegal}
 use Rattle.s66_moments.specs.{Stage, Issue, Start, Free, Moment, Origin, At, End, time_of, Fact, Arc, Before, Begins, AreSo, Follows, NoOrder, IsNumber, Work, shared_time, AreOnce, IsWithin, Leads}
-use Rattle.s66_moments.specs.{Use, Line, ForcedPair, LoadArc, Supposed, fact_of, IsForced, use_time, IsBetween, AreBetween, IsFoundedByPaths, AreFoundedByPaths, IsTooLate, IsRefuted, IsFounded}
+use Rattle.s66_moments.specs.{Use, Line, ForcedPair, LoadArc, Supposed, fact_of, IsForced, use_time, IsBetween, AreBetween, IsFoundedByPaths, AreEach, IsTooLate, IsRefuted, IsFounded}
 use Rattle.s66_moments.specs.{AreFounded, facts_after}
 use Rattle.s66_moments.proofs.LoadArcs.{load-arc}
 use Rattle.s66_moments.proofs.FactLaws.{among-so, issue-start, start-free, before-itself, forced, forced-parcels, forced-unit, prefix-time_at}
@@ -133,7 +133,7 @@ module _ (b : Problem) (low : ℕ) (known : List Fact) where
   too_late-none (inl leads) = λ order legal less so. absurd (omega (arith, leads-so b known order legal so Origin low End leads, less))
   too_late-none (inr (n, is, ring)) = λ order legal less so. before-itself b order legal n (precedes-so b known order legal so n n ring)
 
-by_paths-none : (b : Problem) (low : ℕ) (known : List Fact) (lines : List Line) → AreFoundedByPaths b low known lines → IsTooLate b low (facts_after known lines) → NoOrder b low known
+by_paths-none : (b : Problem) (low : ℕ) (known : List Fact) (lines : List Line) → AreEach (IsFoundedByPaths b low) known lines → IsTooLate b low (facts_after known lines) → NoOrder b low known
 by_paths-none b low known [] founded late = too_late-none b low known late
 by_paths-none b low known (line ∷ lines) founded late =
     λ order legal less so. by_paths-none b low (fact_of line ∷ known) lines founded.1 late order legal less (paths-follow b low known line founded.0 order legal less so, so)
@@ -168,7 +168,7 @@ module _ (b : Problem) (low other : ℕ) (less : other ≤ low) where
   too_late-lower known (inl (hops, path, long)) = inl (hops, path, omega (arith, long, less))
   too_late-lower known (inr ring) = inr ring
 
-  by_paths-lower : (known : List Fact) (lines : List Line) → AreFoundedByPaths b low known lines → AreFoundedByPaths b other known lines
+  by_paths-lower : (known : List Fact) (lines : List Line) → AreEach (IsFoundedByPaths b low) known lines → AreEach (IsFoundedByPaths b other) known lines
   by_paths-lower known [] founded = tt
   by_paths-lower known (line ∷ lines) founded = (paths-lower known line founded.0, by_paths-lower (fact_of line ∷ known) lines founded.1)
 

@@ -105,18 +105,18 @@ abbrev pub facts_after : List Fact → List Line → List Fact
 facts_after known [] = known
 facts_after known (line ∷ lines) = facts_after (fact_of line ∷ known) lines
 
+-- each line is founded in this way, on what is known before it
+abbrev pub AreEach : (List Fact → Line → Type 0) → List Fact → List Line → Type 0
+AreEach Is known [] = Unit {0}
+AreEach Is known (line ∷ lines) = Is known line × AreEach Is (fact_of line ∷ known) lines
+
 -- a path takes low, or a number stands before itself
 abbrev pub IsTooLate : Problem → ℕ → List Fact → Type 0
 IsTooLate b low known = Leads b known Origin low End ⊎ ((n : ℕ) × IsNumber b n × Precedes b known n n)
 
--- each by paths, on what is known before it
-abbrev pub AreFoundedByPaths : Problem → ℕ → List Fact → List Line → Type 0
-AreFoundedByPaths b low known [] = Unit {0}
-AreFoundedByPaths b low known (line ∷ lines) = IsFoundedByPaths b low known line × AreFoundedByPaths b low (fact_of line ∷ known) lines
-
--- lines lead from there to what is too late: no order that takes less than low has what is known
+-- lines, each by paths, lead from there to what is too late: no order that takes less than low has what is known
 abbrev pub IsRefuted : Problem → ℕ → List Fact → Type 0
-IsRefuted b low known = (lines : List Line) × AreFoundedByPaths b low known lines × IsTooLate b low (facts_after known lines)
+IsRefuted b low known = (lines : List Line) × AreEach (IsFoundedByPaths b low) known lines × IsTooLate b low (facts_after known lines)
 
 -- with n before m, what is known is refuted
 abbrev pub IsSupposed : Problem → ℕ → List Fact → ℕ → ℕ → Type 0
@@ -127,7 +127,5 @@ abbrev pub IsFounded : Problem → ℕ → List Fact → Line → Type 0
 IsFounded b low known (Supposed m n) = IsSupposed b low known m n
 IsFounded b low known line = IsFoundedByPaths b low known line
 
--- each on what is known before it
 abbrev pub AreFounded : Problem → ℕ → List Fact → List Line → Type 0
-AreFounded b low known [] = Unit {0}
-AreFounded b low known (line ∷ lines) = IsFounded b low known line × AreFounded b low (fact_of line ∷ known) lines
+AreFounded b low known lines = AreEach (IsFounded b low) known lines

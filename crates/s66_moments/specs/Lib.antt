@@ -12,7 +12,7 @@ pub use Moments.{stage_time, time_at, time_of, writes, has_stage, is_moment, soo
 pub use Facts.{Fact, Arc, Before, Begins, IsSo, AreSo, Follows, NoOrder, IsNumber, IsOnlyUnit, Work, shared_time, load_time, AreOnce, IsWithin}
 pub use Paths.{IsPlacedFirst, IsFirst, PrecedesBy, Precedes, IsInOrder, IsAtPrefix, IsStep, Hop, IsPath, waits, AreKept, Leads}
 pub use FactLines.{Use, Line, ForcedPair, LoadArc, Supposed, fact_of, IsLateByParcels, IsLateByUnit, IsForced, use_time, IsBetween, AreBetween, IsFoundedByPaths, facts_after, IsTooLate}
-pub use FactLines.{AreFoundedByPaths, IsRefuted, IsFounded, AreFounded}
+pub use FactLines.{AreEach, IsRefuted, IsFounded, AreFounded}
 pub use InUse.{ComesNoSooner, FindsNoLater, FindsInUse, DominatesInUse, IsNoWorseBelow}
 pub use LineTrees.{LineEnding, AtLeaf, AtLines, DominatedBy, IsClosedByLines, is_closed, may_be_named, DominatesBelow, LineEndingShows, ShowsByLines}
 pub use Networks.{through, Network, is_in_order, network, precedes, precedes_over, IsKnown, AreSteps, AreArcs, moments_of, moments_among, targets, most_arcs, RisesBy, IsRising, IsPlaced, stage_rank}
