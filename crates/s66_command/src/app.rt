@@ -10,7 +10,7 @@ use clap::{Arg, ArgAction, Command, value_parser};
 use std::alloc::{AllocError, Global};
 
 /// The version of the program.
-pub const VERSION: &str = "0.9.0";
+pub const VERSION: &str = "0.10.0";
 
 /// An option by its name, with its help.
 fn named_argument<'a>(alloc: Global, name: &'a str, text: &'a str) -> Arg<'a>

@@ -107,7 +107,7 @@ pub(crate) const ROWS: &[Row] = &[
         &["a/b", "--version"],
         "  SA1 *+2\n",
         0,
-        "s66 0.9.0\n",
+        "s66 0.10.0\n",
     ),
     (
         "help, of a subcommand without options",
