@@ -3,9 +3,9 @@
 
     tools/test_rows.py PROGRAM
 
-The rows are the tables of s66_test/src/program: ROWS of each file of rows/, BAD of rows/profile.rt, ENDS of rows/page.rt, REPEATED
+The rows are the tables of s66_test_program: ROWS of each file of rows/, BAD of rows/profile.rt, ENDS of rows/page.rt, REPEATED
 and ORDERED of rows.rt. TOLD of rows/remarks.rt is what standard error gets of some of them after a success. Blocks that other tests
-have too are in src/blocks.rt. Each row that ends otherwise than it says is printed. The status is 1 if there is one.
+have too are in s66_test_search/src/blocks.rt. Each row that ends otherwise than it says is printed. The status is 1 if there is one.
 """
 import glob
 import os
@@ -14,7 +14,7 @@ import subprocess
 import sys
 
 CRATES = os.path.join(os.path.dirname(os.path.dirname(os.path.abspath(__file__))), "crates")
-SOURCES = os.path.join(CRATES, "s66_test/src/program")
+SOURCES = os.path.join(CRATES, "s66_test_program/src")
 TOKEN = re.compile(r'//[^\n]*|"(?:[^"\\]|\\.)*"|&\[|[^/"&]+|.', re.DOTALL)
 CONSTANT = re.compile(r"\bconst (\w+):[^=]*=([^;]*);")
 PLACE = re.compile(r"'(\d+)'")
@@ -97,7 +97,7 @@ def main(arguments):
         print(__doc__.strip())
         return 2
     program = os.path.abspath(arguments[0])
-    shared = constants_of(os.path.join(CRATES, "s66_test/src/blocks.rt"), {})
+    shared = constants_of(os.path.join(CRATES, "s66_test_search/src/blocks.rt"), {})
     for name in "running.rt", "rows.rt":
         shared.update(constants_of(os.path.join(SOURCES, name), shared))
     told = constants_of(os.path.join(SOURCES, "rows/remarks.rt"), shared)["TOLD"]

@@ -9,7 +9,7 @@ use s66_isa::Profile;
 use s66_model::{Options, Rule};
 use s66_pool::{FIRST_SPLITS, Free, run};
 use s66_program::{Asked, Command, Fault, Silent, Strategy, SumStyle, document_of, run_command};
-use s66_test::{MULTIPLIES, SEVEN_MULTIPLIES};
+use s66_test_search::{MULTIPLIES, SEVEN_MULTIPLIES};
 use std::alloc::{AllocError, Global};
 use std::sync::Wait;
 use std::thread::Threads;

@@ -9,7 +9,7 @@ use s66_ledger::{Ledger, Offered, Ticket};
 use s66_line::Block;
 use s66_model::Rule;
 use s66_node::{Constant, Piece, Walk};
-use s66_test::{MULTIPLIES, as_written};
+use s66_test_search::{MULTIPLIES, as_written};
 use s66_time::is_beginning;
 use std::alloc::{AllocError, Global};
 

@@ -6,7 +6,7 @@ use s66_isa::Profile;
 use s66_line::Block;
 use s66_model::Rule;
 use s66_node::{Constant, MarkTable, Piece, Walk};
-use s66_test::{MULTIPLIES, THREE_ALIKE};
+use s66_test_search::{MULTIPLIES, THREE_ALIKE};
 use std::alloc::{AllocError, Global};
 
 /// A best time that no order of the blocks reaches, so that whole trees are grown.

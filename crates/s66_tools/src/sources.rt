@@ -5,7 +5,7 @@ use arrayvec::ArrayVec;
 use s66_line::Block;
 use s66_lint::findings_in;
 use s66_source::{Columns, Placed, Source, SourceError, print_source, read_source};
-use s66_test::{ONE_LOAD, only_block};
+use s66_test_search::{ONE_LOAD, only_block};
 use std::alloc::{AllocError, Global};
 
 /// Two runs, of which the second has a label, a note, a pad and a line that ends it.

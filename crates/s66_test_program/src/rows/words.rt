@@ -1,0 +1,126 @@
+//! Rows of the command line: `prove` and `check` by words of their own, and words that are refused.
+
+use crate::rows::{Row, STORE_THEN_LOAD};
+use crate::running::CHECK;
+
+pub(crate) const ROWS: &[Row] = &[
+    (
+        "a program by its path",
+        &["any/name", "deps"],
+        "  BX1 X2\n",
+        0,
+        "BLOCK 1 LINE 1 COUNT 1 DEPENDENCES 0\n",
+    ),
+    (
+        "a program without a name",
+        &["", "chart"],
+        "  BX1 X2\n",
+        0,
+        "BLOCK 1 LINE 1 TIME 4\n  1 I==.\n",
+    ),
+    (
+        "one Boolean",
+        &["s66", "prove", "--workers", "16", "--nodes", "0"],
+        "  BX1 X2\n",
+        0,
+        "S66 CERTIFICATE 1\nPROFILE 3 3 4 4 3 10 29 8 3 8 1 1 1 1 2 1 2\nBLOCK 1\nI BX1 X2\nTIME 4\nBOUND 4\nORDER 1\nC 1\nEND\n",
+    ),
+    (
+        "a store then a load",
+        &["s66", "prove", "--workers", "1", "--dominate"],
+        STORE_THEN_LOAD,
+        0,
+        "S66 CERTIFICATE 1\nPROFILE 3 3 4 4 3 10 29 8 3 8 1 1 1 1 2 1 2\nBLOCK 2\nI SA6 A6+B1\nI SA1 A2+B2\nTIME 9\nBOUND 9\nORDER 1 2\nC 1 2\nEND\n",
+    ),
+    (
+        "a document of version 6",
+        CHECK,
+        "S66 CERTIFICATE 6\n",
+        3,
+        "LINE 1 BAD LINE\ns66 check reads what s66 prove prints\n",
+    ),
+    (
+        "a document that ends",
+        CHECK,
+        "S66 CERTIFICATE 1\n",
+        3,
+        "TRUNCATED\ns66 check reads what s66 prove prints\n",
+    ),
+    (
+        "an option of another command",
+        &["a/b", "time", "--nodes"],
+        "  SA1 *+2\n",
+        2,
+        "error: unexpected argument '--nodes' found\n\nUsage: s66 time [OPTIONS] < SOURCE\n\nFor more information, try '--help'.\n",
+    ),
+    (
+        "the name of a file",
+        &["a/b", "deps", "--block", "1", "deck"],
+        "  SA1 *+2\n",
+        2,
+        "error: unexpected argument 'deck' found\n\nUsage: s66 deps [OPTIONS] < SOURCE\n\nFor more information, try '--help'.\ns66 reads standard input: < FILE\n",
+    ),
+    (
+        "two options that exclude one another",
+        &["a/b", "order", "--dominate", "--dominate-tree"],
+        "  SA1 *+2\n",
+        2,
+        "error: the argument '--dominate' cannot be used with '--dominate-tree'\n\nUsage: s66 order [OPTIONS] < SOURCE\n\nFor more information, try '--help'.\n",
+    ),
+    (
+        "two options that exclude one another",
+        &["s66", "sum", "--deep", "--dominate-tree"],
+        "  SA1 *+2\n",
+        2,
+        "error: the argument '--dominate-tree' cannot be used with '--deep'\n\nUsage: s66 sum [OPTIONS] < SOURCE\n\nFor more information, try '--help'.\n",
+    ),
+    (
+        "two options that exclude one another",
+        &["s66", "prove", "--dominate-tree", "--dominate"],
+        "  SA1 *+2\n",
+        2,
+        "error: the argument '--dominate' cannot be used with '--dominate-tree'\n\nUsage: s66 prove [OPTIONS] < SOURCE\n\nFor more information, try '--help'.\n",
+    ),
+    (
+        "two options that exclude one another",
+        &["s66", "sum", "--dominate", "--trace", "--dominate-tree"],
+        "  SA1 *+2\n",
+        2,
+        "error: the argument '--dominate' cannot be used with '--dominate-tree'\n\nUsage: s66 sum [OPTIONS] < SOURCE\n\nFor more information, try '--help'.\n",
+    ),
+    (
+        "columns of what isn't kept",
+        &["s66", "order", "--columns"],
+        "  SA1 *+2\n",
+        2,
+        "error: the following required arguments were not provided:\n  --keep\n\nUsage: s66 order [OPTIONS] < SOURCE\n\nFor more information, try '--help'.\n",
+    ),
+    (
+        "two mistakes, of which the first is told",
+        &["s66", "order", "--columns", "--deep", "--dominate"],
+        "  SA1 *+2\n",
+        2,
+        "error: the argument '--dominate' cannot be used with '--deep'\n\nUsage: s66 order [OPTIONS] < SOURCE\n\nFor more information, try '--help'.\n",
+    ),
+    (
+        "version",
+        &["a/b", "--version"],
+        "  SA1 *+2\n",
+        0,
+        "s66 0.10.0\n",
+    ),
+    (
+        "help, of a subcommand without options",
+        &["a/b", "guard", "--help"],
+        "",
+        0,
+        "Writes the source with switches around code that order could harm\n\nUsage: s66 guard < SOURCE\n\nOptions:\n  -h, --help  Print help\n\nExample: s66 guard < SOURCE | s66 order --cut --keep --deep\n\nStatus: 0 done, 2 usage, 3 input refused, 4 out of memory,\n        6 a read or write failed\n",
+    ),
+    (
+        "help",
+        &["a/b", "deps", "--help"],
+        "",
+        0,
+        "Prints what each instruction depends on\n\nUsage: s66 deps [OPTIONS] < SOURCE\n\nOptions:\n      --cut        Leaves alone, rather than refuses, lines that can't be\n                   read, and code that directives, macros or counts cover\n      --text       Prints a line for each pair, with their texts and why\n                   the one depends on the other: X6 RAW, MEMORY WAR\n      --block <N>  Prints only the block of this number, 1 to 20000\n  -h, --help       Print help\n\nExample: s66 deps < SOURCE\n\nStatus: 0 done, 2 usage, 3 the source was refused,\n        4 out of memory, 6 a read or write failed\n",
+    ),
+];
