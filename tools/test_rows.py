@@ -3,9 +3,10 @@
 
     tools/test_rows.py PROGRAM
 
-The rows are the tables of s66_test_program: ROWS of each file of rows/, BAD of rows/profile.rt, ENDS of rows/page.rt, REPEATED
-and ORDERED of rows.rt. TOLD of rows/remarks.rt is what standard error gets of some of them after a success. Blocks that other tests
-have too are in s66_test_search/src/blocks.rt. Each row that ends otherwise than it says is printed. The status is 1 if there is one.
+The rows are the tables of s66_test_program: those of each file of rows/ whose names end in ROWS, BAD of rows/profile.rt, those of
+rows/page.rt whose names end in ENDS, REPEATED and ORDERED of rows.rt. TOLD of rows/remarks.rt is what standard error gets of some of
+them after a success. Blocks that other tests have too are in s66_test_search/src/blocks.rt. Each row that ends otherwise than it says
+is printed. The status is 1 if there is one.
 """
 import glob
 import os
@@ -49,11 +50,16 @@ def bad_profiles(table, shared):
                 yield text, ["s66", word, "--profile", text], given, 3, told
 
 
+def joined(tables, ending):
+    """The rows of all tables of a file whose names have this ending."""
+    return [row for name, table in tables.items() if name.endswith(ending) for row in table]
+
+
 def rows_of(shared):
     """All rows: name, words, input, status and text."""
     for path in sorted(glob.glob(os.path.join(SOURCES, "rows/*.rt"))):
         tables = constants_of(path, shared)
-        yield from tables.get("ROWS", [])
+        yield from joined(tables, "ROWS")
         yield from bad_profiles(tables.get("BAD", []), shared)
     for name, words, piece, times, status, text in shared["REPEATED"]:
         yield name, words, piece * times, status, text
@@ -102,7 +108,8 @@ def main(arguments):
         shared.update(constants_of(os.path.join(SOURCES, name), shared))
     told = constants_of(os.path.join(SOURCES, "rows/remarks.rt"), shared)["TOLD"]
     faults = [row_fault(program, told, *row) for row in rows_of(shared)]
-    faults += [page_fault(program, told, *row) for row in constants_of(os.path.join(SOURCES, "rows/page.rt"), shared)["ENDS"]]
+    pages = constants_of(os.path.join(SOURCES, "rows/page.rt"), shared)
+    faults += [page_fault(program, told, *row) for row in joined(pages, "ENDS")]
     faults += [order_fault(program, told, shared, *row) for row in shared["ORDERED"]]
     wrong = list(filter(None, faults))
     print("".join(f"wrong: {fault}\n" for fault in wrong), end="")

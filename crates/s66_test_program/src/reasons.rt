@@ -36,6 +36,26 @@ const REASONS: &[(&str, &str)] = &[
         "DOCUMENT 1 YES TIME 13 BOUND 13\nEvery order takes 13 or more:\n  13  if 1 FX1 X2*X3 issues last: at 2 or later, and 11 to the end\n  13  if 2 FX4 X5*X6 issues last: at 2 or later, and 11 to the end\n  13  if 3 FX0 X7*X7 issues last: at 2 or later, and 11 to the end\nSo the order of 13 is best.\n",
     ),
     (
+        "S66 CERTIFICATE 1\nPROFILE 3 3 4 4 3 10 29 8 3 8 1 1 1 1 2 1 2\nBLOCK 3\nI SA1 A1+B1\nI BX6 X1\nI BX7 X2\nTIME 12\nBOUND 12\nORDER 1 3 2\nS 1 3\nC 2\nC 1 2\nEND\n",
+        "DOCUMENT 1 YES TIME 12 BOUND 12\nEvery order takes 12 or more, by 1 split:\nIf 1 comes first:\n   8  2 BX6 X1 can start\n  12  the unit of 2 BX6 X1 is free, and that is the end\nIf 3 comes first:\n   1  1 SA1 A1+B1 can start\n   9  X1 of 1 SA1 A1+B1 is there, which 2 BX6 X1 reads\n  13  the unit of 2 BX6 X1 is free, and that is the end\nSo the order of 12 is best.\n",
+    ),
+    (
+        "S66 CERTIFICATE 1\nPROFILE 3 3 4 4 3 10 29 8 3 8 1 1 1 1 2 1 2\nBLOCK 2\nI FX1 X2*X3\nI FX4 X5*X6\nTIME 12\nBOUND 12\nORDER 1 2\nS 1 2\nP\nU MULTIPLY\nEND\n",
+        "DOCUMENT 1 YES TIME 12 BOUND 12\nEvery order takes 12 or more, by 1 split:\nIf 1 comes first:\n  12  if 2 FX4 X5*X6 issues last: at 1 or later, and 11 to the end\nIf 2 comes first:\n  12  1 FX1 X2*X3 needs the Multiply units for 11: 11, shared by 2; with 10 for those before: 21; from 1 on\nSo the order of 12 is best.\n",
+    ),
+    (
+        "S66 CERTIFICATE 1\nPROFILE 3 3 4 4 3 10 29 8 3 8 1 1 1 1 2 1 2\nBLOCK 2\nI FX1 X2*X3\nI FX4 X5*X6\nTIME 12\nBOUND 12\nORDER 1 2\nS 1 2\nS 2\nT\nP\nEND\n",
+        "DOCUMENT 1 YES TIME 12 BOUND 12\nEvery order takes 12 or more, by 2 splits:\nIf 1 comes first, then 2:\n  12  all are placed, and that is the end\nIf 2 comes first:\n  12  if 1 FX1 X2*X3 issues last: at 1 or later, and 11 to the end\nSo the order of 12 is best.\n",
+    ),
+    (
+        "S66 CERTIFICATE 1\nPROFILE 3 3 4 4 3 10 29 8 3 8 1 1 1 1 2 1 2\nBLOCK 2\nI FX1 X2*X3\nI BX4 X5\nTIME 11\nBOUND 4\nORDER 1 2\nS 1 2\nU MULTIPLY\nU BOOLEAN\nEND\n",
+        "DOCUMENT 1 YES TIME 11 BOUND 4\nEvery order takes 4 or more, by 1 split:\nIf 1 comes first:\n   6  no other instruction needs the Multiply units; with 10 for those before: 10; from 1 on\nIf 2 comes first:\n   4  no other instruction needs the Boolean unit; with 3 for those before: 3; from 1 on\nThe order found takes 11.\n",
+    ),
+];
+
+/// The same of documents with fact lines.
+const FACT_REASONS: &[(&str, &str)] = &[
+    (
         "S66 CERTIFICATE 4\nPROFILE 3 3 4 4 3 10 29 8 3 8 1 1 1 1 2 1 2\nBLOCK 4\nI BX1 X2*X3\nI BX4 X1*X1\nI BX5 X1*X1\nI FX6 X4+X5\nTIME 16\nBOUND 16\nORDER 1 2 3 4\nA I1 END 4 16 2 3\nE 1\nEND\n",
         "DOCUMENT 1 YES TIME 16 BOUND 16\nEvery order takes 16 or more:\n  1. From where 1 issues it is 4 or more until one of 2 and 3 has its Boolean unit; these need it for 4 each, 8 in all; so the last of them begins at 8 or later, and from there to the end it is 8 or more: 16\nIf an order took less than 16:\n   0  1 BX1 X2*X3 can issue\n  16  the end, by 1.\nSo the order of 16 is best.\n",
     ),
@@ -64,22 +84,6 @@ const REASONS: &[(&str, &str)] = &[
         "DOCUMENT 1 YES TIME 39 BOUND 20\nEvery order takes 20 or more:\n  1. 2 CX4 X5 stands before 1 FX1 X2/X3 in a faster order: 1 has the Divide unit until 30 or later; behind it 2 could issue then, and from there to the end it is 0 or more: 30\nIf an order took less than 20:\n   0  1 FX1 X2/X3 can issue\n  30  the unit of 1 FX1 X2/X3 is free, and that is the end\nThe order found takes 39.\n",
     ),
     (
-        "S66 CERTIFICATE 1\nPROFILE 3 3 4 4 3 10 29 8 3 8 1 1 1 1 2 1 2\nBLOCK 3\nI SA1 A1+B1\nI BX6 X1\nI BX7 X2\nTIME 12\nBOUND 12\nORDER 1 3 2\nS 1 3\nC 2\nC 1 2\nEND\n",
-        "DOCUMENT 1 YES TIME 12 BOUND 12\nEvery order takes 12 or more, by 1 split:\nIf 1 comes first:\n   8  2 BX6 X1 can start\n  12  the unit of 2 BX6 X1 is free, and that is the end\nIf 3 comes first:\n   1  1 SA1 A1+B1 can start\n   9  X1 of 1 SA1 A1+B1 is there, which 2 BX6 X1 reads\n  13  the unit of 2 BX6 X1 is free, and that is the end\nSo the order of 12 is best.\n",
-    ),
-    (
-        "S66 CERTIFICATE 1\nPROFILE 3 3 4 4 3 10 29 8 3 8 1 1 1 1 2 1 2\nBLOCK 2\nI FX1 X2*X3\nI FX4 X5*X6\nTIME 12\nBOUND 12\nORDER 1 2\nS 1 2\nP\nU MULTIPLY\nEND\n",
-        "DOCUMENT 1 YES TIME 12 BOUND 12\nEvery order takes 12 or more, by 1 split:\nIf 1 comes first:\n  12  if 2 FX4 X5*X6 issues last: at 1 or later, and 11 to the end\nIf 2 comes first:\n  12  1 FX1 X2*X3 needs the Multiply units for 11: 11, shared by 2; with 10 for those before: 21; from 1 on\nSo the order of 12 is best.\n",
-    ),
-    (
-        "S66 CERTIFICATE 1\nPROFILE 3 3 4 4 3 10 29 8 3 8 1 1 1 1 2 1 2\nBLOCK 2\nI FX1 X2*X3\nI FX4 X5*X6\nTIME 12\nBOUND 12\nORDER 1 2\nS 1 2\nS 2\nT\nP\nEND\n",
-        "DOCUMENT 1 YES TIME 12 BOUND 12\nEvery order takes 12 or more, by 2 splits:\nIf 1 comes first, then 2:\n  12  all are placed, and that is the end\nIf 2 comes first:\n  12  if 1 FX1 X2*X3 issues last: at 1 or later, and 11 to the end\nSo the order of 12 is best.\n",
-    ),
-    (
-        "S66 CERTIFICATE 1\nPROFILE 3 3 4 4 3 10 29 8 3 8 1 1 1 1 2 1 2\nBLOCK 2\nI FX1 X2*X3\nI BX4 X5\nTIME 11\nBOUND 4\nORDER 1 2\nS 1 2\nU MULTIPLY\nU BOOLEAN\nEND\n",
-        "DOCUMENT 1 YES TIME 11 BOUND 4\nEvery order takes 4 or more, by 1 split:\nIf 1 comes first:\n   6  no other instruction needs the Multiply units; with 10 for those before: 10; from 1 on\nIf 2 comes first:\n   4  no other instruction needs the Boolean unit; with 3 for those before: 3; from 1 on\nThe order found takes 11.\n",
-    ),
-    (
         "S66 CERTIFICATE 4\nPROFILE 3 3 4 4 3 10 29 8 3 8 1 1 1 1 2 1 2\nBLOCK 5\nI SB5 B7+B6\nI SB3 B2+B0\nI SB3 B6+B2\nI SB3 B5+B0\nI LX7 B5,X7\nTIME 11\nBOUND 11\nORDER 1 2 3 5 4\nF 1 3\nF 2 1\nF 5 4\nS 1 2\nR 2 1\nS 1 3\nL 4 3\nR 1 3\nEND\n",
         "DOCUMENT 1 YES TIME 11 BOUND 11\nEvery order takes 11 or more, by 2 splits:\n  1. 1 SB5 B7+B6 stands before 3 SB3 B6+B2 in a faster order: 3 issues at 3 or later; behind it 1 could issue 1 later, and from there to the end it is 7 or more: 11\n  2. 2 SB3 B2+B0 stands before 1 SB5 B7+B6 in a faster order: 1 issues at 0 or later; behind it 2 could issue 1 later, and from there to the end it is 10 or more: 11\n  3. 5 LX7 B5,X7 stands before 4 SB3 B5+B0 in a faster order: 4 issues at 6 or later; behind it 5 could issue 1 later, and from there to the end it is 4 or more: 11\nIf an order took less than 11:\nIf 1 comes first:\n      2 SB3 B2+B0 stands before 1 SB5 B7+B6 in a faster order (by 2.)\nIf 2 comes first, then 1:\n  11  From the beginning it is 4 or more until 3 has its Increment unit, and from there to the end it is 7 or more: 11\nIf 2 comes first, then 3:\n      1 SB5 B7+B6 stands before 3 SB3 B6+B2 in a faster order (by 1.)\nSo the order of 11 is best.\n",
     ),
@@ -100,6 +104,14 @@ fn gives_reasons(rt: HostRuntime) {
         check_output(&rt, command, document, Status::Done, text);
     }
     check_output(&rt, command, "", Status::Done, "");
+}
+
+#[test]
+fn gives_reasons_by_facts(rt: HostRuntime) {
+    let command = plain(Asked::Check { text: true });
+    for &(document, text) in FACT_REASONS {
+        check_output(&rt, command, document, Status::Done, text);
+    }
 }
 
 #[test]

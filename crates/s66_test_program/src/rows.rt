@@ -10,6 +10,7 @@ use std::thread::Threads;
 mod chart;
 mod compare;
 mod deps;
+mod facts;
 mod guard;
 mod json;
 mod kept;
@@ -39,6 +40,9 @@ pub(crate) const B0: &str = "  NX1 B0,X2\n  SB0 5\n  SX3 B0\n";
 pub(crate) const STORE_THEN_LOAD: &str = "  SA6 A6+B1\n  SA1 A2+B2\n";
 
 pub(crate) const UNPACK_THEN_SHIFT: &str = "  UX1 B1,X1\n  LX1 B1\n";
+
+/// Two divides in the only unit, with what reads or replaces their results: 29 minor cycles each, and every order keeps them so.
+pub(crate) const TWO_DIVIDES: &str = "  FX1 X2/X3\n  FX4 X1+X5\n  FX1 X5/X6\n  FX6 X1*X2\n";
 
 pub(crate) const MIXED_SOURCE: &str =
     "* TEST\nLOOP      SA1 A1+1     LOAD\n          NO\n* NOTE\n          BX6 X1\n+         SA6 A6+B1    STORE\n          ZR X1,LOOP\n          BX1 X2\n          VFD 60/0\n";
@@ -182,19 +186,65 @@ fn runs_rows(rt: HostRuntime) {
     check_rows(&rt, time::ROWS);
     check_rows(&rt, deps::ROWS);
     check_rows(&rt, chart::ROWS);
+    check_rows(&rt, profile::ROWS);
+    check_rows(&rt, words::ROWS);
+}
+
+#[test]
+fn runs_rows_of_views(rt: HostRuntime) {
     check_rows(&rt, why::ROWS);
     check_rows(&rt, json::ROWS);
+}
+
+#[test]
+fn runs_rows_of_orders(rt: HostRuntime) {
     check_rows(&rt, order::ROWS);
     check_rows(&rt, kept::ROWS);
-    check_rows(&rt, left_alone::ROWS);
-    check_rows(&rt, lint::ROWS);
-    check_rows(&rt, guard::ROWS);
+}
+
+#[test]
+fn runs_rows_by_facts(rt: HostRuntime) {
+    check_rows(&rt, facts::ROWS);
+    check_rows(&rt, facts::PROOF_ROWS);
+}
+
+#[test]
+fn runs_rows_of_sums(rt: HostRuntime) {
     check_rows(&rt, sum::ROWS);
+    check_rows(&rt, sum::LOOP_ROWS);
+}
+
+#[test]
+fn runs_rows_of_sources(rt: HostRuntime) {
+    check_rows(&rt, left_alone::ROWS);
+    check_rows(&rt, left_alone::DEFINITION_ROWS);
+    check_rows(&rt, left_alone::SWITCH_ROWS);
+    check_rows(&rt, left_alone::LISTED_ROWS);
+}
+
+#[test]
+fn runs_rows_of_findings(rt: HostRuntime) {
+    check_rows(&rt, lint::ROWS);
+    check_rows(&rt, lint::FORM_ROWS);
+    check_rows(&rt, guard::ROWS);
+}
+
+#[test]
+fn runs_rows_of_pairs(rt: HostRuntime) {
     check_rows(&rt, compare::ROWS);
-    check_rows(&rt, profile::ROWS);
+    check_rows(&rt, compare::TEXT_ROWS);
+    check_rows(&rt, compare::SOURCE_ROWS);
+}
+
+#[test]
+fn runs_rows_of_remarks(rt: HostRuntime) {
     check_rows(&rt, remarks::ROWS);
-    check_rows(&rt, words::ROWS);
+}
+
+#[test]
+fn runs_rows_of_documents(rt: HostRuntime) {
     check_rows(&rt, suppositions::ROWS);
+    check_rows(&rt, suppositions::REFUSED_ROWS);
 }
 
 /// The profile is refused before anything is read, so also if the input is refused.
@@ -227,10 +277,9 @@ fn orders_rows(rt: HostRuntime) {
     }
 }
 
-#[test]
-fn shows_pages(rt: HostRuntime) {
-    for &(name, words, input, status, ends) in page::ENDS {
-        let ran = run(&rt, words, input.as_bytes());
+fn check_pages<R: AllocGlobal + Abort + Threads + Wait + Sync>(rt: &R, rows: &[Row]) {
+    for &(name, words, input, status, ends) in rows {
+        let ran = run(rt, words, input.as_bytes());
         let written = ran.written.as_slice();
         let told = told_of(name, words).as_bytes();
         assert!(rt;
@@ -242,6 +291,22 @@ fn shows_pages(rt: HostRuntime) {
             "{name}: {written:?}"
         );
     }
+}
+
+#[test]
+fn shows_pages(rt: HostRuntime) {
+    check_pages(&rt, page::ENDS);
+    check_pages(&rt, page::BLOCK_ENDS);
+}
+
+#[test]
+fn shows_pages_of_any_characters(rt: HostRuntime) {
+    check_pages(&rt, page::ESCAPED_ENDS);
+}
+
+#[test]
+fn shows_pages_of_pairs(rt: HostRuntime) {
+    check_pages(&rt, page::PAIR_ENDS);
 }
 
 /// What stands before the list of blocks is the same in each page but for the title. On paper it hides the box that only a screen can

@@ -144,6 +144,10 @@ pub(crate) const ROWS: &[Row] = &[
         0,
         "BLOCK 1 LINE 1 COUNT 2 TIME 9 NEW LINE 1 COUNT 2 TIME 9 ORDER 2 1\nTOTAL BLOCKS 1 TIME 9 NEW BLOCKS 1 TIME 9 LEGAL 1\n",
     ),
+];
+
+/// The same by `--text`.
+pub(crate) const TEXT_ROWS: &[Row] = &[
     (
         "read after write, by text",
         COMPARE_TEXT,
@@ -179,6 +183,10 @@ pub(crate) const ROWS: &[Row] = &[
         0,
         "BLOCK 1 LINE 1 COUNT 2 TIME 9 NEW LINE 1 COUNT 2 TIME 9 ORDER 2 1\nTOTAL BLOCKS 1 TIME 9 NEW BLOCKS 1 TIME 9 LEGAL 1\n",
     ),
+];
+
+/// Marks between two sources, what stands beside the blocks, and sources that are refused.
+pub(crate) const SOURCE_ROWS: &[Row] = &[
     (
         "lower case mark",
         COMPARE,

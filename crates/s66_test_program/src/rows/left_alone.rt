@@ -62,6 +62,10 @@ pub(crate) const ROWS: &[Row] = &[
         0,
         "* BLOCK 1 COUNT 3 SOURCE 16 TIME 12 BEST\n          SA1 A1+B1\n          BX7 X2\n          BX6 X1\n  BX5 X1\n* NOTE\n,  +1\n",
     ),
+];
+
+/// Definitions, and lines that are counted.
+pub(crate) const DEFINITION_ROWS: &[Row] = &[
     (
         "nested definitions",
         CUT,
@@ -111,6 +115,10 @@ pub(crate) const ROWS: &[Row] = &[
         0,
         "          ELSE               OTHERWISE\n* BLOCK 1 COUNT 3 SOURCE 16 TIME 12 BEST\n          SA1 A1+B1\n          BX7 X2\n          BX6 X1\n          ELSE              1\n  BX1 X2\n* BLOCK 2 COUNT 1 SOURCE 4 TIME 4 BEST\n          BX2 X3\n",
     ),
+];
+
+/// Operands that are left alone, and lines behind them; and switches.
+pub(crate) const SWITCH_ROWS: &[Row] = &[
     (
         "bad operands and continued lines",
         CUT,
@@ -174,6 +182,10 @@ pub(crate) const ROWS: &[Row] = &[
         0,
         "*S66 OFF\n  DUP 2,3\n*S66 ON\n  BX1 X2\n  BX2 X3\n  BX3 X4\n* BLOCK 1 COUNT 3 SOURCE 16 TIME 12 BEST\n          SA1 A1+B1\n          BX7 X2\n          BX6 X1\n",
     ),
+];
+
+/// What `lint` lists of such lines.
+pub(crate) const LISTED_ROWS: &[Row] = &[
     (
         "a macro with a body",
         LINT,

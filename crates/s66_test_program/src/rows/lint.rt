@@ -91,6 +91,10 @@ pub(crate) const ROWS: &[Row] = &[
         8,
         "LINE 1 COUNTS WORDS EQ LOOP+N\nLINE 2 COUNTS WORDS SX6 1+LOOP\nLINE 4 COUNTS WORDS EQ SUB+2\nLINE 5 COUNTS WORDS JP B3+CAS\n",
     ),
+];
+
+/// Lines that are left alone by their form, and operations that are redefined.
+pub(crate) const FORM_ROWS: &[Row] = &[
     (
         "bodies",
         LINT,

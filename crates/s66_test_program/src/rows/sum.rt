@@ -140,6 +140,10 @@ pub(crate) const ROWS: &[Row] = &[
         0,
         "BLOCK 2 LINE 3 COUNT 3 SOURCE 8 TIME 8 BEST MOVED 0 WORDS 2 FOUND 2\nTOTAL BLOCKS 1 SOURCE 8 TIME 8 BEST 1 MOVED 0 WORDS 2 FOUND 2\n",
     ),
+];
+
+/// Loops, whose words are counted.
+pub(crate) const LOOP_ROWS: &[Row] = &[
     (
         "a loop of eight words",
         &["s66", "sum", "--workers", "1", "--nodes", "0", "--words"],

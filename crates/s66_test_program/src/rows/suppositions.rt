@@ -145,6 +145,10 @@ pub(crate) const ROWS: &[Row] = &[
         5,
         "DOCUMENT 1 NO LINE 11 REASON 14\n",
     ),
+];
+
+/// Documents that are refused.
+pub(crate) const REFUSED_ROWS: &[Row] = &[
     (
         "a supposition in version 4",
         CHECK,
