@@ -95,7 +95,7 @@ def put_script(folder, program):
     os.mkdir(built)
     for name in ("tools", "docs"):
         os.mkdir(os.path.join(folder, name))
-    for name in ("s66", "tools/build.sh", "tools/improve.sh"):
+    for name in ("s66", *glob.glob("tools/*.sh", root_dir=ROOT)):
         shutil.copy(os.path.join(ROOT, name), os.path.join(folder, name))
     shutil.copytree(os.path.join(ROOT, "docs/help"), os.path.join(folder, "docs/help"))
     os.symlink(os.path.abspath(program), os.path.join(built, "s66_main"))
