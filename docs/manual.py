@@ -6,7 +6,8 @@
     docs/manual.py --check    tells whether they aren't current; the status is then 1
 
 - docs/help has what the program shows without a word, and of its version; its own help and that of each subcommand, and with -h
-  behind the name the brief one. What else stands there is removed. docs/help/script is written by hand.
+  behind the name the brief one: each as it holds of the script, which takes files in the place of standard input, and has commands of
+  its own. What else stands there is removed. docs/help/script is written by hand.
 - The list, docs/help/value-options, has the options that take a value, by which ./s66 tells that from a file.
 - Of the page docs/s66.1 that part is made which stands between the comments `made by docs/manual.py` and `end`. An option that says
   the same of several subcommands stands there once, with their names; a heading of the help, but `Options:`, stands there too.
@@ -21,12 +22,17 @@ sys.dont_write_bytecode = True
 from definitions import ROOT, Wrong, read
 
 FOLDER, LIST, PAGE = "docs/help", "docs/help/value-options", "docs/s66.1"
+OWN = "docs/help/script/s66"  # the script's commands, of which the first stands before those of the program, and what its help ends with
+FILES = {"guard": "[FILE]", "page": "[FILE | --compare OLD NEW]", "compare": "OLD NEW"}  # of other subcommands: [FILE..]
 START, END = '.\\" made by docs/manual.py\n', '.\\" end\n'
 COMMAND = re.compile(r"^  (?!help )([a-z]+)  ", re.MULTILINE)
 HELP = re.compile(r"(.*?)\n\nUsage: .*?\n\n(Options:\n.*?)\n\nExample: .*?\n\nStatus: (.*)\n", re.DOTALL)
 HEADING = re.compile(r"(\S.*):$")
 OPTION = re.compile(r"^ {2,6}(?:-\w, )?--([\w-]+)(?: <(\w+)>)?(?:  +(\S.*))?$", re.MULTILINE)
-STATUS = re.compile(r"(\d) ([^,]*)")
+STATUS = re.compile(r"\b(\d) ([^,]*)")
+STATUSES = re.compile(r"\n\nStatus: (.*)\n", re.DOTALL)
+ENDS = [("126", "There is no program yet, and none can be compiled")]
+ENDS += [("129, 130, 141, 143", "A signal has ended the script: HUP, INT, PIPE, TERM")]
 
 
 def show(program, words, status=0):
@@ -37,9 +43,24 @@ def show(program, words, status=0):
     return (done.stdout + done.stderr).decode()
 
 
+def of_script(name, text):
+    """What the program shows as a file of docs/help, as it holds of the script."""
+    commands, _, end = read(OWN).partition("\n\n")
+    first, *others = commands.splitlines()
+    if name == "none":
+        names = [COMMAND.match(command)[1] for command in (first, *others)]
+        return text.replace("[subcommands: ", f"[subcommands: {names[0]}, ").replace(", help]", f", {', '.join(names[1:])}, help]")
+    if name in ("s66", "s66-h"):
+        text = text.replace("Commands:\n", f"Commands:\n{first}\n").replace("  help  ", "\n".join([*others, "  help  "])) + f"\n{end}"
+    files = FILES.get(name.removesuffix("-h"), "[FILE..]")
+    text = re.sub(r"^(Usage: .*) < [A-Z]+", rf"\1 {files}", text, flags=re.MULTILINE)
+    return text.replace(" < SOURCES", " OLD NEW").replace(" < SOURCE", " FILE").replace(" < CERTIFICATES", " CERTIFICATES")
+
+
 def commands_in(texts):
-    """The subcommands that the program's own help lists."""
-    commands = COMMAND.findall(texts.get("s66", ""))
+    """The subcommands of the program that its own help lists, or that of the script."""
+    own = COMMAND.findall(read(OWN))
+    commands = [command for command in COMMAND.findall(texts.get("s66", "")) if command not in own]
     if not commands:
         raise Wrong(f"{FOLDER}/s66: lists no subcommand")
     return commands
@@ -51,7 +72,7 @@ def shown_by(program):
     texts |= {"s66": show(program, ["--help"]), "s66-h": show(program, ["-h"])}
     for command in commands_in(texts):
         texts |= {command: show(program, [command, "--help"]), f"{command}-h": show(program, [command, "-h"])}
-    return texts
+    return {name: of_script(name, text) for name, text in texts.items()}
 
 
 def kept():
@@ -130,10 +151,14 @@ def part(texts):
             if under == heading:
                 yield f".It Fl -{option}{f' Ar {value}' if value else ''}\n{of(whose)}" + ".Pp\n".join(map(roff, paragraphs))
         yield ".El\n"
+    for command in COMMAND.findall(read(OWN)):
+        commands.append(command)
+        status = STATUSES.search(read(f"{FOLDER}/script/{command}"))[1]
+        statuses += [(command, found) for found in STATUS.findall(" ".join(status.split()))]
     yield ".Sh EXIT STATUS\n.Bl -tag -width Ds\n"
     for (status, words), whose in grouped(sorted(statuses, key=lambda found: found[1][0])):
         yield f".It {status}\n{'' if len(whose) == len(commands) else of(whose)}{roff(words)}"
-    yield ".El\n"
+    yield "".join(f".It {status}\n{words}\n" for status, words in ENDS) + ".El\n"
 
 
 def page(texts):
