@@ -1,5 +1,6 @@
 -- To be believed: fact lines with suppositions among them, as a certificate has them: which are taken, what is known after them, and what they show of all orders.
-use Rattle.std.specs.Prelude.{ℕ, Bool, true, false, not, ◌&&◌, ◌||◌, ◌==◌, List, [], ◌∷◌, ◌++◌, nat_le, Option, Some, None, is_some}
+use Rattle.std.specs.Prelude.{ℕ, Bool, true, false, if◌then◌else◌, not, ◌&&◌, ◌||◌, ◌==◌, List, [], ◌∷◌, ◌++◌, nat_le, Option, Some, None, is_some}
+use Rattle.std.specs.Option.{option_map_or}
 use Rattle.s66_isa.specs.{some_of, numbers}
 use Rattle.s66_model.specs.{Problem}
 use Rattle.s66_moments.specs.declared.moment.Stage.{Stage}
@@ -99,18 +100,11 @@ are_steps_taken b bound standing (step ∷ steps) = is_step_taken b bound standi
 
 -- WHAT THEY SHOW of all orders: nothing of what is known by what is supposed
 
-abbrev pub shown_by_line : Option Supposition → Line → List Line
-shown_by_line None line = line ∷ []
-shown_by_line (Some s) line = []
-
-abbrev pub shown_by_end : Option Supposition → List Line
-shown_by_end None = []
-shown_by_end (Some s) = Supposed s.first s.second ∷ []
-
+-- a line where nothing is supposed, and at the end of a supposition its pair
 abbrev pub shown_by : Problem → Standing → FactStep → List Line
-shown_by b standing (Fact line) = shown_by_line standing.supposed (line_of b line)
+shown_by b standing (Fact line) = if is_some standing.supposed then [] else line_of b line ∷ []
 shown_by b standing (Suppose m n) = []
-shown_by b standing Refuted = shown_by_end standing.supposed
+shown_by b standing Refuted = option_map_or (λ (s : Supposition). Supposed s.first s.second ∷ []) standing.supposed []
 
 abbrev pub shown_by_all : Problem → Standing → List FactStep → List Line
 shown_by_all b standing [] = []
