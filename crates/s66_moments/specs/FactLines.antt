@@ -2,6 +2,7 @@
 use Rattle.std.specs.Prelude.{ℕ, ◌+◌, ◌≡◌, ◌≢◌, ◌≤◌, ◌⊎◌, true, List, [], ◌∷◌, map}
 use Rattle.s66_isa.specs.{Kind, has, Among, same_kind}
 use Rattle.s66_model.specs.{Problem, row_at, copies}
+use Rattle.s66_moments.specs.declared.moment.Stage.{Stage}
 use Rattle.s66_moments.specs.declared.moment.Stage.TheVariants.{Issue, Start, Free}
 use Rattle.s66_moments.specs.declared.moment.Moment.{Moment}
 use Rattle.s66_moments.specs.declared.moment.Moment.TheVariants.{Origin, At, End}
@@ -17,14 +18,14 @@ pub record Use : Type 0 where
 pub data Line : Type 0 where
   -- the first number stands before the second, since the other way round the order takes low or more
   ForcedPair : ℕ → ℕ → Line
-  -- f comes a wait later than e, since units of the kind are so used between, each at least h after e
-  LoadArc : (kind : Kind) → (e f : Moment) → (h wait : ℕ) → List Use → Line
+  -- the second moment comes a wait later than the first, since units of the kind are so used between, each at least so much after the first
+  LoadArc : (kind : Kind) → (from to : Moment) → (after wait : ℕ) → List Use → Line
   -- the first number stands before the second, since no order that takes less than low has them the other way round
   Supposed : ℕ → ℕ → Line
 
 abbrev pub fact_of : Line → Fact
 fact_of (ForcedPair m n) = Before m n
-fact_of (LoadArc kind e f h wait uses) = Arc e wait f 0
+fact_of (LoadArc kind from to after wait uses) = Arc from wait to 0
 fact_of (Supposed m n) = Before m n
 
 -- FORCED PAIRS: if n stood before m
@@ -54,50 +55,47 @@ use_time b kind uses = shared_time (λ (u : Use). u.amount) uses (copies b kind)
 abbrev pub IsHeld : Problem → Use → Type 0
 IsHeld b u = u.amount ≤ (row_at b u.number).hold + 1
 
--- Each use begins h after e at the soonest. These h, the time of all uses, and what is left from the end of any one of them to f make up
--- the wait at least: f comes t after a moment of the use, of which the amount may be part.
+-- Each use begins `after` the first moment at the soonest. That, the time of all uses, and what is left from the end of any one of them
+-- to the second moment make up the wait at least: `left` is from a moment of the use on, of which the amount may be part.
 
--- it begins with the issue
-abbrev pub IsUsedFromIssue : Problem → List Fact → Moment → Moment → (h wait time : ℕ) → Use → Type 0
-IsUsedFromIssue b known e f h wait time u =
-    (t : ℕ) × IsHeld b u × Leads b known e h (At u.number Issue) × Leads b known (At u.number Issue) t f × (u.amount + wait ≤ h + time + t)
+-- it begins with this stage
+abbrev pub IsUsedFrom : Problem → List Fact → Moment → Moment → (after wait all : ℕ) → Stage → Use → Type 0
+IsUsedFrom b known from to after wait all stage u =
+    (left : ℕ) × IsHeld b u × Leads b known from after (At u.number stage) × Leads b known (At u.number stage) left to
+    × (u.amount + wait ≤ after + all + left)
 
--- it begins with the start
-abbrev pub IsUsedFromStart : Problem → List Fact → Moment → Moment → (h wait time : ℕ) → Use → Type 0
-IsUsedFromStart b known e f h wait time u =
-    (t : ℕ) × IsHeld b u × Leads b known e h (At u.number Start) × Leads b known (At u.number Start) t f × (u.amount + wait ≤ h + time + t)
+-- it begins with the start, and what is left counts from when its unit is free
+abbrev pub IsUsedUntilFree : Problem → List Fact → Moment → Moment → (after wait all : ℕ) → Use → Type 0
+IsUsedUntilFree b known from to after wait all u =
+    (left : ℕ) × IsHeld b u × Leads b known from after (At u.number Start) × Leads b known (At u.number Free) left to
+    × (wait ≤ after + all + left)
 
--- it begins with the start, and f comes t after its unit is free
-abbrev pub IsUsedUntilFree : Problem → List Fact → Moment → Moment → (h wait time : ℕ) → Use → Type 0
-IsUsedUntilFree b known e f h wait time u =
-    (t : ℕ) × IsHeld b u × Leads b known e h (At u.number Start) × Leads b known (At u.number Free) t f × (wait ≤ h + time + t)
+-- the number is placed, and the amount is what is left of its use from `after` on
+abbrev pub IsUsedStill : Problem → List Fact → Moment → Moment → (after wait all : ℕ) → Use → Type 0
+IsUsedStill b known from to after wait all u =
+    (prefix : List ℕ) × (left : ℕ) × (from ≡ Origin) × Among (Begins prefix) known × (has u.number prefix ≡ true)
+    × (time_of b prefix (At u.number Issue) ≤ after) × (after + u.amount ≤ time_of b prefix (At u.number Free))
+    × Leads b known (At u.number Free) left to × (wait ≤ after + all + left)
 
--- the number is placed, and this is what is left of its use from h on
-abbrev pub IsUsedStill : Problem → List Fact → Moment → Moment → (h wait time : ℕ) → Use → Type 0
-IsUsedStill b known e f h wait time u =
-    (prefix : List ℕ) × (t : ℕ) × (e ≡ Origin) × Among (Begins prefix) known × (has u.number prefix ≡ true)
-    × (time_of b prefix (At u.number Issue) ≤ h) × (h + u.amount ≤ time_of b prefix (At u.number Free))
-    × Leads b known (At u.number Free) t f × (wait ≤ h + time + t)
+abbrev pub IsBetween : Problem → List Fact → Moment → Moment → (after wait all : ℕ) → Use → Type 0
+IsBetween b known from to after wait all u =
+    IsUsedFrom b known from to after wait all Issue u ⊎ (IsUsedFrom b known from to after wait all Start u
+    ⊎ (IsUsedUntilFree b known from to after wait all u ⊎ IsUsedStill b known from to after wait all u))
 
-abbrev pub IsBetween : Problem → List Fact → Moment → Moment → (h wait time : ℕ) → Use → Type 0
-IsBetween b known e f h wait time u =
-    IsUsedFromIssue b known e f h wait time u ⊎ (IsUsedFromStart b known e f h wait time u
-    ⊎ (IsUsedUntilFree b known e f h wait time u ⊎ IsUsedStill b known e f h wait time u))
-
-abbrev pub AreBetween : Problem → List Fact → Kind → Moment → Moment → (h wait time : ℕ) → List Use → Type 0
-AreBetween b known kind e f h wait time [] = Unit {0}
-AreBetween b known kind e f h wait time (u ∷ us) =
-    IsNumber b u.number × (same_kind (row_at b u.number).kind kind ≡ true) × IsBetween b known e f h wait time u
-    × AreBetween b known kind e f h wait time us
+abbrev pub AreBetween : Problem → List Fact → Kind → Moment → Moment → (after wait all : ℕ) → List Use → Type 0
+AreBetween b known kind from to after wait all [] = Unit {0}
+AreBetween b known kind from to after wait all (u ∷ us) =
+    IsNumber b u.number × (same_kind (row_at b u.number).kind kind ≡ true) × IsBetween b known from to after wait all u
+    × AreBetween b known kind from to after wait all us
 
 -- LINES, one after the other
 
 -- by paths that are known, with nothing supposed: the pair is forced; or the load arc's uses are of one kind, none of one instruction twice, one at least, and each lies between
 abbrev pub IsFoundedByPaths : Problem → ℕ → List Fact → Line → Type 0
 IsFoundedByPaths b low known (ForcedPair m n) = IsForced b low known m n
-IsFoundedByPaths b low known (LoadArc kind e f h wait []) = ⊥
-IsFoundedByPaths b low known (LoadArc kind e f h wait (u ∷ us)) =
-    AreOnce (map (λ (v : Use). v.number) (u ∷ us)) × AreBetween b known kind e f h wait (use_time b kind (u ∷ us)) (u ∷ us)
+IsFoundedByPaths b low known (LoadArc kind from to after wait []) = ⊥
+IsFoundedByPaths b low known (LoadArc kind from to after wait (u ∷ us)) =
+    AreOnce (map (λ (v : Use). v.number) (u ∷ us)) × AreBetween b known kind from to after wait (use_time b kind (u ∷ us)) (u ∷ us)
 IsFoundedByPaths b low known (Supposed m n) = ⊥
 
 -- what is known after lines, the newest first
