@@ -3,7 +3,7 @@ use Rattle.std.proofs.Common.{ℕ, ◌+◌, ◌-◌, ◌≤◌, ◌<◌, ◌≡�
 use Rattle.std.proofs.lemmas.List.{length-map}
 use Rattle.s66_isa.specs.{Kind, least, weigh, Among, same_kind}
 use Rattle.s66_model.specs.{Problem, Point, row_at, copies, total_of, IsLegal}
-use Rattle.s66_moments.specs.{Stage, Issue, Start, Free, Moment, Origin, At, End, time_of, Fact, Arc, Before, Begins, AreSo, Follows, NoOrder, IsNumber, Work, shared_time, AreOnce, IsWithin, Leads}
+use Rattle.s66_moments.specs.{Stage, Issue, Start, Free, Moment, Origin, At, End, time_of, Fact, Arc, Before, Begins, AreSo, Follows, NoOrder, IsNumber, Work, shared_time, AreOnce, Window, IsWithin, Leads}
 use Rattle.s66_moments.specs.{Use, Line, ForcedPair, LoadArc, Supposed, fact_of, IsForced, use_time, IsBetween, AreBetween, IsFoundedByPaths, AreEach, IsTooLate, IsRefuted, IsFounded}
 use Rattle.s66_moments.specs.{AreFounded, facts_after}
 use Rattle.s66_moments.proofs.LoadArcs.{load-arc}
@@ -40,20 +40,18 @@ module _ (b : Problem) (low : ℕ) (known : List Fact) where
       forced-unit b low known x y differ is_x is_y h t one.0 one.1 (leads-follows Origin h (At x Free) head) (leads-follows (At y Issue) t End tail) late
 
   module _ (kind : Kind) (e f : Moment) (h wait time : ℕ) where
-    abbrev q : ℕ
-    q = wait - (h + time)
-
-    abbrev v : ℕ
-    v = h + time - wait
+    -- between the two moments, as much longer or shorter as the wait is than all uses
+    abbrev window : Window
+    window = record { from = e; after = h; to = f; left = wait - (h + time); less = h + time - wait }
 
     -- a use, as work that lies within
     abbrev Works : Use → Type 0
-    Works u = (x : Work) × (x.number ≡ u.number) × (x.amount ≡ u.amount) × IsWithin b low known kind e h f q v x
+    Works u = (x : Work) × (x.number ≡ u.number) × (x.amount ≡ u.amount) × IsWithin b low known kind window x
 
     -- from a stage that is no sooner than its issue and no later than its start
     from-stage : (u : Use) (stage : Stage) → IsNumber b u.number → same_kind (row_at b u.number).kind kind ≡ true → u.amount ≤ (row_at b u.number).hold + 1 →
         ((order : List ℕ) → IsLegal b.block order → (time_of b order (At u.number Issue) ≤ time_of b order (At u.number stage)) × (time_of b order (At u.number stage) ≤ time_of b order (At u.number Start))) →
-        Leads b known e h (At u.number stage) → Follows b low known (Arc (At u.number stage) (u.amount + q) f v) → Works u
+        Leads b known e h (At u.number stage) → Follows b low known (Arc (At u.number stage) (u.amount + window.left) f window.less) → Works u
     from-stage u stage is same full range head ended = (
       record { number = u.number; amount = u.amount; from = At u.number stage; more = 0 },
       refl,
@@ -98,7 +96,7 @@ module _ (b : Problem) (low : ℕ) (known : List Fact) where
         placed-free order legal so =
             (let (rest, e) = among-so b order (Begins prefix) known among so in prefix-time_at b order legal prefix rest e u.number (λ (p : Point). p.free) there)
 
-    all-within : (uses : List Use) → AreBetween b known kind e f h wait time uses → (works : List Work) × (map (λ (x : Work). x.number) works ≡ map (λ (u : Use). u.number) uses) × (map (λ (x : Work). x.amount) works ≡ map (λ (u : Use). u.amount) uses) × ((x : Work) → Among x works → IsWithin b low known kind e h f q v x)
+    all-within : (uses : List Use) → AreBetween b known kind e f h wait time uses → (works : List Work) × (map (λ (x : Work). x.number) works ≡ map (λ (u : Use). u.number) uses) × (map (λ (x : Work). x.amount) works ≡ map (λ (u : Use). u.amount) uses) × ((x : Work) → Among x works → IsWithin b low known kind window x)
     all-within [] between = ([], refl, refl, λ x among. absurd among)
     all-within (u ∷ us) between =
         let (x, number, amount, within) = one-within u between.0 between.1 between.2 in
@@ -107,7 +105,7 @@ module _ (b : Problem) (low : ℕ) (known : List Fact) where
           ap (λ k. k ∷ map (λ (y : Work). y.number) works) number ∙ ap (λ ks. u.number ∷ ks) numbers,
           ap (λ k. k ∷ map (λ (y : Work). y.amount) works) amount ∙ ap (λ ks. u.amount ∷ ks) amounts,
           λ y among. elim among [
-            | inl here ↦ subst (λ z. IsWithin b low known kind e h f q v z) (sym here) within
+            | inl here ↦ subst (λ z. IsWithin b low known kind window z) (sym here) within
             | inr past ↦ all y past
           ],
         )
@@ -121,7 +119,7 @@ module _ (b : Problem) (low : ℕ) (known : List Fact) where
       let time : ℕ = use_time b kind (u ∷ us) in
       let (works, numbers, amounts, all) = all-within kind e f h wait time (u ∷ us) between in
       let once2 : AreOnce (map (λ (x : Work). x.number) works) = subst AreOnce (sym numbers) once in
-      let arc = load-arc b low known kind e f h (wait - (h + time)) (h + time - wait) works (some-works u.number (map (λ (w : Use). w.number) us) works numbers) once2 all order legal less so in
+      let arc = load-arc b low known kind (window kind e f h wait time) works (some-works u.number (map (λ (w : Use). w.number) us) works numbers) once2 all order legal less so in
       omega (arith, arc, shared-same (λ (x : Work). x.amount) (λ (v : Use). v.amount) works (u ∷ us) (copies b kind) amounts)
 
   paths-follow : (line : Line) → IsFoundedByPaths b low known line → Follows b low known (fact_of line)

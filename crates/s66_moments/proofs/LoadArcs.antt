@@ -7,7 +7,7 @@ use Rattle.s66_model.specs.{Problem, Point, copies, point_of, points_of, total_o
 use Rattle.s66_model.proofs.Issue.{some_copies}
 use Rattle.s66_model.proofs.LoadBound.{over-le}
 use Rattle.s66_model.proofs.PointTimes.{point_of-row, point_of-number}
-use Rattle.s66_moments.specs.{Issue, Free, Moment, At, time_of, Fact, Arc, AreSo, Follows, Work, load_time, AreOnce, IsWithin}
+use Rattle.s66_moments.specs.{Issue, Free, At, time_of, Fact, Arc, AreSo, Follows, Work, load_time, AreOnce, Window, IsWithin}
 use Rattle.s66_moments.proofs.Placed.{placed, point-among, time_at-placed}
 use Rattle.s66_moments.proofs.UnitWindows.{works_at, works-run, work_between, between-le, either, has-one, some-le}
 use Rattle.s66_moments.proofs.WholeUses.{looks, looks-le, held-looked}
@@ -71,11 +71,19 @@ module _ (b : Problem) (kind : Kind) (order : List ℕ) (legal : IsLegal b.block
   pub shared-fit : (works : List Work) → AreOnce (map (λ (x : Work). x.number) works) → ((x : Work) → Among x works → DoesThere x) → a ≤ z → load_time b kind works + a ≤ z
   shared-fit works once there le = omega (arith, works-fit works once there le, whole-fit works once there le)
 
+-- when a window begins in an order, and when it ends
+abbrev begins : Problem → Window → List ℕ → ℕ
+begins b window order = time_of b order window.from + window.after
+
+abbrev ends : Problem → Window → List ℕ → ℕ
+ends b window order = time_of b order window.to + window.less - window.left
+
 -- what is between in its own words is between by the times of its point
-does-there : (b : Problem) (low : ℕ) (facts : List Fact) (kind : Kind) (e : Moment) (h : ℕ) (f : Moment) (q v : ℕ) (x : Work) → IsWithin b low facts kind e h f q v x →
+does-there : (b : Problem) (low : ℕ) (facts : List Fact) (kind : Kind) (window : Window) (x : Work) → IsWithin b low facts kind window x →
     (order : List ℕ) (legal : IsLegal b.block order) → total_of b order < low → AreSo b order facts →
-    (DoesThere b kind order legal (time_of b order e + h) (time_of b order f + v - q) x) × (time_of b order e + h ≤ time_of b order f + v - q) × (q ≤ time_of b order f + v)
-does-there b low facts kind e h f q v x within order legal less so =
+    (DoesThere b kind order legal (begins b window order) (ends b window order) x) × (begins b window order ≤ ends b window order)
+    × (window.left ≤ time_of b order window.to + window.less)
+does-there b low facts kind window x within order legal less so =
     let (front, rest, is) = placed b order legal x.number within.is_number.0 within.is_number.1 in
     let p : Point = point_of b (points_of b front) x.number in
     let issue : time_of b order (At x.number Issue) ≡ p.issue = time_at-placed b order legal front rest x.number (λ (r : Point). r.issue) is in
@@ -85,15 +93,15 @@ does-there b low facts kind e h f q v x within order legal less so =
     let i3 = within.held order legal less so in
     let i4 = within.ended order legal less so in
     let same : same_kind p.row.kind kind ≡ true = rw (point_of-row b (points_of b front) x.number) within.is_kind in
-    let much : x.amount ≤ work_between kind (time_of b order e + h) (time_of b order f + v - q) p = rw same (omega (arith, i1, i2, i3, i4, issue, free)) in
+    let much : x.amount ≤ work_between kind (begins b window order) (ends b window order) p = rw same (omega (arith, i1, i2, i3, i4, issue, free)) in
     ((p, point-among b order legal front rest x.number is, point_of-number b (points_of b front) x.number, much), omega (arith, i2, i4), omega (arith, i4))
 
-pub load-arc : (b : Problem) (low : ℕ) (facts : List Fact) (kind : Kind) (e f : Moment) (h q v : ℕ) (works : List Work) → 0 < length works → AreOnce (map (λ (x : Work). x.number) works) → ((x : Work) → Among x works → IsWithin b low facts kind e h f q v x) →
-    Follows b low facts (Arc e (h + load_time b kind works + q) f v)
-load-arc b low facts kind e f h q v [] some once within order legal less so = absurd (omega (arith, some))
-load-arc b low facts kind e f h q v (y ∷ works) some once within order legal less so =
-    let a : ℕ = time_of b order e + h in
-    let z : ℕ = time_of b order f + v - q in
-    let (there, le, late) = does-there b low facts kind e h f q v y (within y (inl refl)) order legal less so in
-    let fit = shared-fit b kind order legal a z (y ∷ works) once (λ x among. (does-there b low facts kind e h f q v x (within x among) order legal less so).0) le in
+pub load-arc : (b : Problem) (low : ℕ) (facts : List Fact) (kind : Kind) (window : Window) (works : List Work) → 0 < length works → AreOnce (map (λ (x : Work). x.number) works) → ((x : Work) → Among x works → IsWithin b low facts kind window x) →
+    Follows b low facts (Arc window.from (window.after + load_time b kind works + window.left) window.to window.less)
+load-arc b low facts kind window [] some once within order legal less so = absurd (omega (arith, some))
+load-arc b low facts kind window (y ∷ works) some once within order legal less so =
+    let a : ℕ = begins b window order in
+    let z : ℕ = ends b window order in
+    let (there, le, late) = does-there b low facts kind window y (within y (inl refl)) order legal less so in
+    let fit = shared-fit b kind order legal a z (y ∷ works) once (λ x among. (does-there b low facts kind window x (within x among) order legal less so).0) le in
     omega (arith, fit, late)

@@ -62,12 +62,19 @@ abbrev pub AreOnce : List ℕ → Type 0
 AreOnce [] = Unit {0}
 AreOnce (n ∷ ns) = (has n ns ≡ false) × AreOnce ns
 
--- A unit of the kind does the work between h after e and q before f, if v is added to f: no sooner than its instruction issues, and
--- until it is free at the latest.
-pub record IsWithin (b : Problem) (low : ℕ) (known : List Fact) (kind : Kind) (e : Moment) (h : ℕ) (f : Moment) (q v : ℕ) (u : Work) : Type 0 where
+-- the time from `after` behind one moment to `left` before another, if `less` is added to that one
+pub record Window : Type 0 where
+  pub from : Moment
+  pub after : ℕ
+  pub to : Moment
+  pub left : ℕ
+  pub less : ℕ
+
+-- A unit of the kind does the work in the window: no sooner than its instruction issues, and until it is free at the latest.
+pub record IsWithin (b : Problem) (low : ℕ) (known : List Fact) (kind : Kind) (window : Window) (u : Work) : Type 0 where
   pub is_number : IsNumber b u.number
   pub is_kind : same_kind (row_at b u.number).kind kind ≡ true
   pub issued : Follows b low known (Arc (At u.number Issue) 0 u.from u.more)
-  pub begun : Follows b low known (Arc e h u.from u.more)
+  pub begun : Follows b low known (Arc window.from window.after u.from u.more)
   pub held : Follows b low known (Arc u.from (u.more + u.amount) (At u.number Free) 0)
-  pub ended : Follows b low known (Arc u.from (u.more + u.amount + q) f v)
+  pub ended : Follows b low known (Arc u.from (u.more + u.amount + window.left) window.to window.less)

@@ -9,7 +9,7 @@ pub mod KnownFacts
 pub mod Suppositions
 pub mod Examples
 pub use Moments.{stage_time, time_at, time_of, writes, has_stage, is_moment, soonest, only_if, latency_to, fetches, own_arc, later_arc, arc}
-pub use Facts.{Fact, Arc, Before, Begins, IsSo, AreSo, Follows, NoOrder, IsNumber, IsOnlyUnit, Work, shared_time, load_time, AreOnce, IsWithin}
+pub use Facts.{Fact, Arc, Before, Begins, IsSo, AreSo, Follows, NoOrder, IsNumber, IsOnlyUnit, Work, shared_time, load_time, AreOnce, Window, IsWithin}
 pub use Paths.{IsPlacedFirst, IsFirst, PrecedesBy, Precedes, IsInOrder, IsAtPrefix, IsStep, Hop, IsPath, waits, AreKept, Leads}
 pub use FactLines.{Use, Line, ForcedPair, LoadArc, Supposed, fact_of, IsLateByParcels, IsLateByUnit, IsForced, use_time, IsBetween, AreBetween, IsFoundedByPaths, facts_after, IsTooLate}
 pub use FactLines.{AreEach, IsRefuted, IsFounded, AreFounded}

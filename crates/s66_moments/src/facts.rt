@@ -4,7 +4,7 @@
 ghost use Rattle.std.specs.Prelude.{ℕ, List, ◌∷◌, ◌+◌, ◌≡◌, ◌≢◌, ◌≤◌, ◌<◌, true, map, length};
 ghost use Rattle.s66_isa.specs.{Kind, Among, has};
 ghost use Rattle.s66_model.specs.{Problem, row_at, total_of, is_remaining};
-ghost use Rattle.s66_moments.specs.{Stage, Issue, Free, Moment, Origin, At, End, time_of, soonest, Fact, Arc, Before, Begins, Follows, NoOrder, IsNumber, IsOnlyUnit, Work, AreOnce, IsWithin};
+ghost use Rattle.s66_moments.specs.{Stage, Issue, Free, Moment, Origin, At, End, time_of, soonest, Fact, Arc, Before, Begins, Follows, NoOrder, IsNumber, IsOnlyUnit, Work, AreOnce, Window, IsWithin};
 ghost use Rattle.s66_moments.specs.{load_time, Precedes, IsPlacedFirst};
 
 /// What is known follows, and so does all that follows from it. Arcs compose, and may be shortened; what follows of a time follows of
@@ -66,8 +66,8 @@ pub fn prefix_law()
 /// kind, rounded up, for any number of copies, and by as many of the least work as there are works over the copies, rounded up. Each
 /// instruction counts once, and there is one at least.
 pub fn load_arc_law()
-    ensures { (b : Problem) (low : ℕ) (known : List Fact) (kind : Kind) (e f : Moment) (h q v : ℕ) (works : List Work) →
+    ensures { (b : Problem) (low : ℕ) (known : List Fact) (kind : Kind) (window : Window) (works : List Work) →
         0 < length works → AreOnce (map (λ (u : Work). u.number) works) →
-        ((u : Work) → Among u works → IsWithin b low known kind e h f q v u) →
-        Follows b low known (Arc e (h + load_time b kind works + q) f v) }
+        ((u : Work) → Among u works → IsWithin b low known kind window u) →
+        Follows b low known (Arc window.from (window.after + load_time b kind works + window.left) window.to window.less) }
 {}
