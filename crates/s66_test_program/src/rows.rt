@@ -239,6 +239,7 @@ fn runs_rows_of_pairs(rt: HostRuntime) {
 #[test]
 fn runs_rows_of_remarks(rt: HostRuntime) {
     check_rows(&rt, remarks::ROWS);
+    check_rows(&rt, remarks::PAIR_ROWS);
 }
 
 #[test]

@@ -22,6 +22,9 @@ const TWO_FINDINGS: &str =
 /// Two lines that `lint` lists, one of which `--cut` leaves alone.
 const HARMED: &str = "  SA1 A1+B1\n*CALL COMXAMP\n  BX6 X1\n  BX7 X2\n  NZ X1,*-1\n";
 
+/// One line that `lint` lists.
+const COUNTED: &str = "  BX1 X2\n  BX6 X3\n  NZ X1,*-1\n";
+
 /// What standard error gets of rows that succeed: name, subcommand, lines. Of other such rows it gets nothing.
 pub(crate) const TOLD: &[(&str, &str, &str)] = &[
     ("empty input", "time", NO_LINE),
@@ -111,6 +114,10 @@ pub(crate) const TOLD: &[(&str, &str, &str)] = &[
         "--order",
         "s66 lint lists 2 lines that order may harm\n",
     ),
+    ("one line is told", "prove", ONE_LINE),
+    ("one line is told", "json", ONE_LINE),
+    ("one line is told, page", "page", ONE_LINE),
+    ("one line is told, page of two sources", "page", ONE_LINE),
     (
         "with --cut it is one",
         "order",
@@ -256,6 +263,20 @@ pub(crate) const ROWS: &[Row] = &[
         "BLOCK 1 LINE 1 TIME 12\n  2 FIRST 2 TO 5 UNIT BOOLEAN BY 3\n  2 SECOND 5 TO 8 REGISTER X1 BY 1\nPATH 1 2\nSTEPS 8 4 TIME 12\nLOST FIRST 3 SECOND 3 THIRD 0\nEvery order takes 12 or more:\n   8  X1 of 1 SA1 A1+B1 is there, which 2 BX6 X1 reads\n  12  the unit of 2 BX6 X1 is free, and that is the end\nSo the order of 12 is best.\n",
     ),
     (
+        "one line is told",
+        &["s66", "prove", "--workers", "1"],
+        COUNTED,
+        0,
+        "S66 CERTIFICATE 1\nPROFILE 3 3 4 4 3 10 29 8 3 8 1 1 1 1 2 1 2\nBLOCK 2\nI BX1 X2\nI BX6 X3\nTIME 8\nBOUND 8\nORDER 1 2\nU BOOLEAN\nEND\n",
+    ),
+    (
+        "one line is told",
+        &["s66", "json", "--order", "--workers", "1"],
+        COUNTED,
+        0,
+        "{\"schema\":1,\"block\":1,\"label\":null,\"entry\":null,\"line\":1,\"last_line\":2,\"count\":2,\"parcels\":2,\"instructions\":[{\"n\":1,\"line\":1,\"text\":\"BX1 X2\",\"unit\":\"boolean\",\"parcels\":1,\"works\":3,\"reads\":[\"X2\"],\"writes\":[\"X1\"],\"memory\":null,\"after\":[]},{\"n\":2,\"line\":2,\"text\":\"BX6 X3\",\"unit\":\"boolean\",\"parcels\":1,\"works\":3,\"reads\":[\"X3\"],\"writes\":[\"X6\"],\"memory\":null,\"after\":[]}],\"written\":{\"time\":8,\"no\":0,\"order\":[1,2],\"at\":[{\"n\":1,\"parcel\":0,\"issue\":0,\"start\":0,\"done\":3,\"free\":4,\"results\":[{\"register\":\"X1\",\"done\":3}],\"waits\":[]},{\"n\":2,\"parcel\":1,\"issue\":4,\"start\":4,\"done\":7,\"free\":8,\"results\":[{\"register\":\"X6\",\"done\":7}],\"waits\":[{\"conflict\":\"first\",\"from\":1,\"to\":4,\"for\":\"unit\",\"name\":\"boolean\",\"by\":1}]}],\"path\":[1,2],\"steps\":[4,4],\"lost\":{\"first\":3,\"second\":0,\"third\":0}},\"found\":{\"time\":8,\"no\":0,\"order\":[1,2],\"at\":[{\"n\":1,\"parcel\":0,\"issue\":0,\"start\":0,\"done\":3,\"free\":4,\"results\":[{\"register\":\"X1\",\"done\":3}],\"waits\":[]},{\"n\":2,\"parcel\":1,\"issue\":4,\"start\":4,\"done\":7,\"free\":8,\"results\":[{\"register\":\"X6\",\"done\":7}],\"waits\":[{\"conflict\":\"first\",\"from\":1,\"to\":4,\"for\":\"unit\",\"name\":\"boolean\",\"by\":1}]}],\"path\":[1,2],\"steps\":[4,4],\"lost\":{\"first\":3,\"second\":0,\"third\":0},\"bound\":8,\"best\":true,\"splits\":0}}\n",
+    ),
+    (
         "none is told of a listing",
         WHY,
         HARMED,
@@ -349,6 +370,10 @@ pub(crate) const ROWS: &[Row] = &[
         5,
         "DOCUMENT 1 NO LINE 5 REASON 2\n",
     ),
+];
+
+/// What is told of two sources, and the status with `--strict`.
+pub(crate) const PAIR_ROWS: &[Row] = &[
     (
         "an instruction is moved out of *IF",
         COMPARE,
