@@ -209,6 +209,11 @@ fn runs_rows_by_facts(rt: HostRuntime) {
 }
 
 #[test]
+fn runs_rows_of_searches(rt: HostRuntime) {
+    check_rows(&rt, facts::SOUGHT_ROWS);
+}
+
+#[test]
 fn runs_rows_of_sums(rt: HostRuntime) {
     check_rows(&rt, sum::ROWS);
     check_rows(&rt, sum::LOOP_ROWS);

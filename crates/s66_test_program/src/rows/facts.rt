@@ -74,6 +74,49 @@ pub(crate) const ROWS: &[Row] = &[
     ),
 ];
 
+/// Orders that more splits find than come first, and facts beside them.
+pub(crate) const SOUGHT_ROWS: &[Row] = &[
+    (
+        "2,000 splits first, 20 for each pair of places, and none after",
+        &["s66", "order", "--workers", "1", "--deep", "--trace"],
+        "  FX0 X7*X7\n  FX1 X7*X7\n  FX2 X7*X7\n  FX3 X7*X7\n  FX4 X7*X7\n  FX5 X7*X7\n  FX6 X7*X7\n  SB1 B0+1\n  SB2 B0+1\n  SB3 B0+1\n",
+        0,
+        "* BLOCK 1 COUNT 10 SOURCE 44 TIME 44 BEST\n* SPLITS 2000\n          FX0 X7*X7\n          FX1 X7*X7\n          FX2 X7*X7\n          FX3 X7*X7\n          FX4 X7*X7\n          FX5 X7*X7\n          FX6 X7*X7\n          SB1 B0+1\n          SB2 B0+1\n          SB3 B0+1\n",
+    ),
+    (
+        "a search, a tree by facts, and the order brought nearer",
+        &[
+            "s66",
+            "order",
+            "--workers",
+            "1",
+            "--deep",
+            "--nodes",
+            "2200",
+            "--trace",
+        ],
+        "  SB2 B1+1\n  FX7 X6*X5\n  SB7 B7+B2\n  SB3 B1+B7\n  FX4 X0+X3\n  FX1 X3*X1\n  SB5 B5+1\n  SB4 B7+1\n  IX6 X2+X3\n  BX0 X0*X0\n",
+        0,
+        "* BLOCK 1 COUNT 10 SOURCE 17 TIME 16 BEST\n* SPLITS 2322\n          SB2 B1+1\n          FX7 X6*X5\n          SB7 B7+B2\n          FX4 X0+X3\n          FX1 X3*X1\n          SB5 B5+1\n          SB3 B1+B7\n          IX6 X2+X3\n          SB4 B7+1\n          BX0 X0*X0\n",
+    ),
+    (
+        "a search that is left open, and goes on",
+        &[
+            "s66",
+            "order",
+            "--workers",
+            "1",
+            "--deep",
+            "--nodes",
+            "7284",
+            "--trace",
+        ],
+        "  FX0 X2/X1\n  BX0 X0*X5\n  SA0 A5+B5\n  MX4 2\n  SA7 A5+7\n  LX1 B0,X0\n  CX4 X0\n  FX7 X0*X6\n  SX3 X0+B7\n  IX2 X2+X6\n  IX3 X3+X7\n  FX4 X3*X7\n  SA2 A5+B6\n  SX2 B2+B7\n  LX5 B7,X6\n  FX5 X7*X3\n  SA6 A5+4\n  FX0 X2*X4\n  FX2 X1*X2\n",
+        7,
+        "* BLOCK 1 COUNT 19 SOURCE 79 TIME 68 AT LEAST 67\n* SPLITS 21858\n          FX0 X2/X1\n          SA0 A5+B5\n          MX4 2\n          SA7 A5+7\n          IX2 X2+X6\n          BX0 X0*X5\n          LX1 B0,X0\n          CX4 X0\n          FX7 X0*X6\n          SX3 X0+B7\n          SA2 A5+B6\n          IX3 X3+X7\n          FX4 X3*X7\n          SX2 B2+B7\n          LX5 B7,X6\n          FX5 X7*X3\n          SA6 A5+4\n          FX0 X2*X4\n          FX2 X1*X2\n",
+    ),
+];
+
 /// Certificates.
 pub(crate) const PROOF_ROWS: &[Row] = &[
     (
@@ -96,5 +139,19 @@ pub(crate) const PROOF_ROWS: &[Row] = &[
         THREE_INCREMENTS,
         0,
         "S66 CERTIFICATE 4\nPROFILE 3 3 4 4 3 10 29 8 3 8 1 1 1 1 2 1 2\nBLOCK 3\nI SX5 B1+B2\nI SX5 B1+B2\nI SX7 B3+5\nTIME 8\nBOUND 8\nORDER 1 2 3\nL 0 1 2 3\nEND\n",
+    ),
+    (
+        "a certificate by a supposition",
+        &["s66", "prove", "--workers", "1", "--deep", "--nodes", "16"],
+        "  DX3 X1-X4\n  IX3 X1+X0\n  DX2 X2-X5\n  FX7 X1*X1\n  LX2 B2,X3\n  BX2 X2*X2\n  BX0 X7*X4\n  BX5 X7*X5\n",
+        0,
+        "S66 CERTIFICATE 5\nPROFILE 3 3 4 4 3 10 29 8 3 8 1 1 1 1 2 1 2\nBLOCK 8\nI DX3 X1-X4\nI IX3 X1+X0\nI DX2 X2-X5\nI FX7 X1*X1\nI LX2 B2,X3\nI BX2 X2*X2\nI BX0 X7*X4\nI BX5 X7*X5\nTIME 22\nBOUND 22\nORDER 4 1 2 3 7 5 6 8\nA I4 END 10 18 7 8\nB 4 1\nF 1 3\nA 0 END 11 22 6 7 8\nQ\nA I4 END 10 22 6 7 8\nE 4\nEND\n",
+    ),
+    (
+        "a tree of 2,374 lines, and a certificate of 15",
+        &["s66", "prove", "--workers", "1", "--deep"],
+        "  FX0 X7*X7\n  FX1 X7*X7\n  FX2 X7*X7\n  FX3 X7*X7\n  FX4 X7*X7\n  FX5 X7*X7\n  FX6 X7*X7\n",
+        0,
+        "S66 CERTIFICATE 4\nPROFILE 3 3 4 4 3 10 29 8 3 8 1 1 1 1 2 1 2\nBLOCK 7\nI FX0 X7*X7\nI FX1 X7*X7\nI FX2 X7*X7\nI FX3 X7*X7\nI FX4 X7*X7\nI FX5 X7*X7\nI FX6 X7*X7\nTIME 44\nBOUND 44\nORDER 1 2 3 4 5 6 7\nL 0 1 2 3 4 5 6 7\nEND\n",
     ),
 ];
