@@ -10,11 +10,12 @@ PROGRAM is the built program. Without a DOCUMENT all are checked:
 - what docs/manual.py makes of what the program shows, which is docs/help and a part of the page: that it is as that makes it now;
 - what docs/definitions.py makes in documents: that it is as that makes it now, and that each file of the crates says what it is for;
 - what docs/visibility.py tells of the crates: what is public without being exported, or imported and not used;
+- that no more names stand for several definitions than tools/same_names.py allows;
 - docs/page.png: that it is of the page that the program writes now, by docs/page.sum;
 - the files of examples/: that each NAME.time, NAME.chart and NAME.order is to the byte what the program writes of NAME.compass, and
   that check says yes to each document that prove writes of it, at the times of NAME.order; and that it says yes to each NAME.cert.
 
-Each wrong place is told, wrong output as a diff. The last line counts in how many documents, and of the last six, nothing is wrong
+Each wrong place is told, wrong output as a diff. The last line counts in how many documents, and of the last seven, nothing is wrong
 and something is. The status is 1 where something is.
 
 Two kinds of fences hold commands. In
@@ -45,13 +46,15 @@ import subprocess
 import sys
 import tempfile
 
+ROOT = os.path.dirname(os.path.dirname(os.path.abspath(__file__)))
+
 sys.dont_write_bytecode = True
+sys.path.append(os.path.join(ROOT, "tools"))
 import definitions
 import manual
 import picture
+import same_names
 import visibility
-
-ROOT = os.path.dirname(os.path.dirname(os.path.abspath(__file__)))
 
 FENCE = re.compile(r"^```(.*)\n((?:.*\n)*?)^```$", re.MULTILINE)
 SPAN = re.compile(r"`([^`\n]+)`")
@@ -271,7 +274,7 @@ def main(arguments):
         documents = [os.path.join(ROOT, name) for name in DOCUMENTS]
         documents += sorted(glob.glob(os.path.join(ROOT, "docs/*.md")))
         checks = [wrong_manual("docs/s66.1", program), manual.stale(program)]
-        checks += [definitions.stale(), visibility.wrong(), picture.stale(program), wrong_examples(program)]
+        checks += [definitions.stale(), visibility.wrong(), same_names.wrong(), picture.stale(program), wrong_examples(program)]
     repository = Repository()
     checks += [wrong_in(document, program, repository) for document in documents]
     failed = 0

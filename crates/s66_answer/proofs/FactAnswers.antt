@@ -8,7 +8,7 @@ use Rattle.s66_time.specs.TimedOrder.{TimedOrder}
 use Rattle.s66_cert.specs.{Document, IsDocument, Parts, document_of, EvidenceOf}
 use Rattle.s66_checker.specs.{verdict, Yes}
 use Rattle.s66_deep.specs.{IsGood}
-use Rattle.s66_answer.specs.{ByFacts, Candidate, IsEnough, document_under, problem_of, IsClaimed, IsShownBy, claimed, claimed_by, parts_by, tree_splits}
+use Rattle.s66_answer.specs.{ByFacts, Candidate, IsEnough, document_under, problem_of, IsStoredClaim, IsShownBy, claimed, claimed_by, parts_by, tree_splits}
 
 -- a candidate is a legal order with its total, no slower than the source order, which it is if it is as slow
 pub record IsCandidate (p : Profile) (block : Block) (c : Candidate) : Type 0 where
@@ -24,7 +24,7 @@ module _ (strategy : Strategy) (p : Profile) (block : Block) (c : Candidate) (e 
   same-document =
       subst (λ (d : Parts). document_of d ≡ document_under strategy.search.rule p block (claimed_by d s.splits)) (sym shown.document) refl
 
-  pub shown-claimed : strategy.deep ≡ true → IsCandidate p block c → IsEnough strategy.search (problem_of p block) (claimed s) → tree_splits e ≤ s.splits → 2 * s.splits ≤ 7 * strategy.search.nodes → IsClaimed strategy p block s
+  pub shown-claimed : strategy.deep ≡ true → IsCandidate p block c → IsEnough strategy.search (problem_of p block) (claimed s) → tree_splits e ≤ s.splits → 2 * s.splits ≤ 7 * strategy.search.nodes → IsStoredClaim strategy p block s
   shown-claimed deep is enough made few =
       let back : parts_by p block c.order.numbers c.time e ≡ s.document = sym shown.document in
       let whole : c.order ≡ record { block = instrs_of block; numbers = c.order.numbers } = ap (λ (instrs : List Instr). record { block = instrs; numbers = c.order.numbers }) is.of_block in

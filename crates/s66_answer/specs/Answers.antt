@@ -47,13 +47,13 @@ searched found = record { order = found.order; time = found.time; bound = found.
 
 -- all splits that were made, where the search itself made so many: without `--deep` there is no other, and with it others made at most
 -- two and a half times as many as a search may make
-abbrev pub AreAll : Strategy → (own all : ℕ) → Type 0
-AreAll strategy own all = (own ≤ all) × (2 * all ≤ 2 * own + 5 * strategy.search.nodes) × (strategy.deep ≡ false → all ≡ own)
+abbrev pub AreAllSplits : Strategy → (own all : ℕ) → Type 0
+AreAllSplits strategy own all = (own ≤ all) × (2 * all ≤ 2 * own + 5 * strategy.search.nodes) × (strategy.deep ≡ false → all ≡ own)
 
 -- it is what a search with these options answers, without fact lines, and with the splits of all searches
-abbrev pub IsSearched : Strategy → Problem → Answer → Type 0
-IsSearched strategy b a =
-    (found : search.Answer) × search.IsAnswer strategy.search.rule b strategy.search.nodes found × (a ≡ record (searched found) { splits = a.splits }) × AreAll strategy found.splits a.splits
+abbrev pub IsSearchAnswer : Strategy → Problem → Answer → Type 0
+IsSearchAnswer strategy b a =
+    (found : search.Answer) × search.IsAnswer strategy.search.rule b strategy.search.nodes found × (a ≡ record (searched found) { splits = a.splits }) × AreAllSplits strategy found.splits a.splits
 
 -- BY FACTS
 
@@ -63,7 +63,7 @@ IsEnough options b a =
     ((a.bound ≡ a.time) × (splits a.tree ≤ options.nodes))
     ⊎ ((found : search.Answer) × search.IsAnswer options.rule b options.nodes found × (a.time ≤ found.time) × (found.bound ≤ a.bound) × (found.splits ≤ a.splits))
 
-pub record IsShown (options : Options) (p : Profile) (block : Block) (a : Answer) : Type 0 where
+pub record IsShownAnswer (options : Options) (p : Profile) (block : Block) (a : Answer) : Type 0 where
   -- a legal order with its total
   pub legal : IsLegal (instrs_of block) a.order
   pub time : a.time ≡ total_of (problem_of p block) a.order
@@ -84,7 +84,7 @@ pub record IsShown (options : Options) (p : Profile) (block : Block) (a : Answer
 
 -- it is searched, or with `--deep` it may be shown
 abbrev pub IsAnswer : Strategy → Profile → Block → Answer → Type 0
-IsAnswer strategy p block a = IsSearched strategy (problem_of p block) a ⊎ ((strategy.deep ≡ true) × IsShown strategy.search p block a)
+IsAnswer strategy p block a = IsSearchAnswer strategy (problem_of p block) a ⊎ ((strategy.deep ≡ true) × IsShownAnswer strategy.search p block a)
 
 -- for each block
 abbrev pub AreAnswers : Strategy → Profile → List Block → List Answer → Type 0

@@ -11,7 +11,7 @@ pub use Shown.{shown, before}
 pub use Answers.{Answer, problem_of, texts_of, rule_of, document_under, searched, IsAnswer, IsEnough, AreAnswers}
 pub use OfAnswers.{bounded_if, status_by, status_of, all_parts, IsOfAnswers}
 pub use ProvedAnswers.{IsSpelledTo, IsSpelled, IsSpelledBlock}
-pub use Stored.{IsSearchOf, AreBeside, tree_splits, parts_by, IsAccepted, claimed_by, claimed, answer_in, IsShownBy, IsClaimed, IsFound, IsFor, IsWorth}
+pub use Stored.{IsSearchOf, AreBeside, tree_splits, parts_by, IsAccepted, claimed_by, claimed, answer_in, IsShownBy, IsStoredClaim, IsFound, IsFor, IsWorth}
 pub use Turns.{AreMade, ArePut}
 pub use Kept.{IsKept, AreKept, AreAnswered, IsKeptAt, parts_in, bounded_in}
 pub use declared.answers.ByFacts.{ByFacts}

@@ -11,7 +11,7 @@ use Rattle.s66_answer.specs.declared.answers.Found.{Found}
 use Rattle.s66_answer.specs.declared.answers.Found.TheVariants.{Searched, Shown}
 use Rattle.s66_answer.specs.declared.answers.ByFacts.{ByFacts}
 use Rattle.s66_answer.specs.declared.answers.Candidate.{Candidate}
-use Rattle.s66_answer.specs.Answers.{Answer, AreAll, IsAnswer, document_under, problem_of, searched, texts_of}
+use Rattle.s66_answer.specs.Answers.{Answer, AreAllSplits, IsAnswer, document_under, problem_of, searched, texts_of}
 
 -- A SEARCH of the block's orders for an answer
 
@@ -69,7 +69,7 @@ pub record IsShownBy (p : Profile) (block : Block) (c : Candidate) (e : Evidence
   pub splits : s.splits ≡ c.splits
 
 -- an answer to the block, with its document, which passes the checker, and its order
-pub record IsClaimed (strategy : Strategy) (p : Profile) (block : Block) (s : ByFacts) : Type 0 where
+pub record IsStoredClaim (strategy : Strategy) (p : Profile) (block : Block) (s : ByFacts) : Type 0 where
   pub answer : IsAnswer strategy p block (claimed s)
   pub document : document_of s.document ≡ document_under strategy.search.rule p block (claimed s)
   pub accepted : IsAccepted s.document
@@ -81,8 +81,8 @@ abbrev pub IsFound : Strategy → Profile → Block → AnswerOf → Type 0
 IsFound strategy p block found = (found.rule ≡ strategy.search.rule) × (found.problem ≡ problem_of p block) × (found.budget ≡ strategy.search.nodes)
 
 abbrev pub IsFor : Strategy → Profile → Block → Found → Type 0
-IsFor strategy p block (Searched s) = IsFound strategy p block s.answer × AreAll strategy (answer_of s.answer).splits s.splits
-IsFor strategy p block (Shown s) = IsClaimed strategy p block s
+IsFor strategy p block (Searched s) = IsFound strategy p block s.answer × AreAllSplits strategy (answer_of s.answer).splits s.splits
+IsFor strategy p block (Shown s) = IsStoredClaim strategy p block s
 
 -- facts show that the answer's order is best, by a tree of no more splits than a search may have, or as much of the answer as its
 -- search did

@@ -133,16 +133,16 @@ abbrev pub has_value : Text → List Text → Bool
 has_value id words = is_some (plain_text id words)
 
 -- the number that a text is
-abbrev pub number_in : Text → ℕ
-number_in text = digits_value 10 (without_leading_plus text)
+abbrev pub written_number : Text → ℕ
+written_number text = digits_value 10 (without_leading_plus text)
 
 -- a number of a text, if there is one, is within the limits
 abbrev pub IsNumberIn : Limits → Option Text → Option ℕ → Type 0
-IsNumberIn limits text number = (number ≡ option_map number_in text) × IfSome number (λ n. (limits.least ≤ n) × (n ≤ limits.most))
+IsNumberIn limits text number = (number ≡ option_map written_number text) × IfSome number (λ n. (limits.least ≤ n) × (n ≤ limits.most))
 
 -- the number of the text, or the default if there is none, is within the limits
 abbrev pub IsNumberOrDefault : Limits → (default : ℕ) → Option Text → ℕ → Type 0
-IsNumberOrDefault limits default text n = (n ≡ option_map_or number_in text default) × (limits.least ≤ n) × (n ≤ limits.most)
+IsNumberOrDefault limits default text n = (n ≡ option_map_or written_number text default) × (limits.least ≤ n) × (n ≤ limits.most)
 
 -- the flags of a search that the words give the subcommand
 abbrev pub search_flags : List Text → SearchFlags

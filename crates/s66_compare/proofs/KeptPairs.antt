@@ -10,7 +10,7 @@ use Rattle.s66_model.proofs.LegalOrders.{depends-from, depends-lt, each-needs, h
 use Rattle.s66_model.proofs.Remaining.{order-has}
 use Rattle.s66_line.specs.{Block, instrs_of, line_of, whole_text_of, instr_in_text}
 use Rattle.s66_time.proofs.Opened.{push-more, push-cases}
-use Rattle.s66_compare.specs.{first_left, is_open, paired, partner, partners, texts_of, by_order, first_missing, is_kept, is_missing, kept_verdict, verdict_of, BlockVerdict, NotLegal, OtherNew}
+use Rattle.s66_compare.specs.{first_left, is_untaken, paired, partner, partners, texts_of, by_order, first_missing, is_kept, is_missing, kept_verdict, verdict_of, BlockVerdict, NotLegal, OtherNew}
 use Rattle.s66_compare.specs.{OtherOld, Reordered, Same}
 use Rattle.s66_compare.proofs.Firsts.{first_passes, none_passes}
 use Rattle.s66_compare.proofs.Legal.{length-texts, needed}
@@ -234,12 +234,12 @@ module _ (old : Block) (spelled : IsSpelled old) where
 
     -- ITS PARTNER
 
-    open-taken : (j : ℕ) → is_open old taken (whole_text_of old n) j ≡ false → whole_text_of old j ≡ whole_text_of old n → has j taken ≡ true
+    open-taken : (j : ℕ) → is_untaken old taken (whole_text_of old n) j ≡ false → whole_text_of old j ≡ whole_text_of old n → has j taken ≡ true
     open-taken j closed text = needed (has_text old (whole_text_of old n) j) (has j taken) closed (same-text old (whole_text_of old n) j text)
 
     some-open : partner old taken (whole_text_of old n) ≡ 0 → ⊥
     some-open none =
-        too-many (λ k least most text there. open-taken k (none_passes (is_open old taken (whole_text_of old n)) (length (instrs_of old)) 1 (omega arith) none k least (omega (arith, most))) text)
+        too-many (λ k least most text there. open-taken k (none_passes (is_untaken old taken (whole_text_of old n)) (length (instrs_of old)) 1 (omega arith) none k least (omega (arith, most))) text)
 
 -- a partner, which is ready after those that are taken
 record Step (old : Block) (placed taken : List ℕ) (n : ℕ) : Type 0 where
@@ -252,13 +252,13 @@ step old placed taken n spelled state ready =
     let text = whole_text_of old n in
     let m = partner old taken text in
     let other = some-open old spelled placed taken state n ready in
-    let passes = first_passes (is_open old taken text) (length (instrs_of old)) 1 m (omega arith) refl other in
+    let passes = first_passes (is_untaken old taken text) (length (instrs_of old)) 1 m (omega arith) refl other in
     let stated = and_parts (has_text old text m) (not (has m taken)) passes.2 in
     let few : m ≤ length (instrs_of old) = omega (arith, passes.1) in
     let fresh : has m taken ≡ false = not-true (has m taken) stated.1 in
     let same = text-same old text m stated.0 in
     let least : (j : ℕ) → 1 ≤ j → j < m → whole_text_of old j ≡ text → has j taken ≡ true =
-    λ j low below is. open-taken old spelled placed taken state n ready j (first-least (is_open old taken text) (length (instrs_of old)) 1 m j refl low below) is in
+    λ j low below is. open-taken old spelled placed taken state n ready j (first-least (is_untaken old taken text) (length (instrs_of old)) 1 m j refl low below) is in
     record {
       some = ne_eqb m 0 other;
       ready = ready-from (instrs_of old) taken m passes.0 few fresh (each-needs (instrs_of old) taken m (taken-needs old spelled placed taken state n ready m passes.0 few same least) m);

@@ -10,7 +10,7 @@ use Rattle.s66_model.proofs.Beginnings.{beginning-front, length-rising}
 use Rattle.s66_model.proofs.LegalOrders.{depends-from, depends-lt, each-needs, ready-from, ready-parts}
 use Rattle.s66_model.proofs.Remaining.{legal-parts}
 use Rattle.s66_line.specs.{Block, instrs_of, line_of, whole_text_of}
-use Rattle.s66_compare.specs.{AreWithin, first_left, is_open, paired, partner, partners, texts_of, by_order, first_missing, is_kept, is_missing, kept_verdict, verdict_of, BlockVerdict, NotLegal}
+use Rattle.s66_compare.specs.{AreWithin, first_left, is_untaken, paired, partner, partners, texts_of, by_order, first_missing, is_kept, is_missing, kept_verdict, verdict_of, BlockVerdict, NotLegal}
 use Rattle.s66_compare.specs.{OtherNew, OtherOld}
 use Rattle.s66_compare.proofs.Firsts.{first_passes, none_passes}
 
@@ -45,7 +45,7 @@ takes-next old taken text texts some later =
     let n = partner old taken text in
     let count = length (instrs_of old) in
     let other : n ≢ 0 = λ none. true≢false (sym (ap (λ k. k == 0) none) ∙ some) in
-    let first = first_passes (is_open old taken text) count 1 n (omega arith) refl other in
+    let first = first_passes (is_untaken old taken text) count 1 n (omega arith) refl other in
     let stated = and_parts (bytes_eq (whole_text_of old n) text) (not (has n taken)) first.2 in
     record {
       more = n ∷ later.more;

@@ -20,25 +20,25 @@ abbrev pub not_legal_text : (texts : Bool) (new : Option Block) (order : List �
 not_legal_text true (Some new) order number missing = broken_text new order number missing
 not_legal_text texts new order number missing = codes " NOT LEGAL " ++ decimal number ++ codes " AFTER " ++ decimal missing
 
-abbrev pub verdict_text : (texts : Bool) (new : Option Block) → BlockVerdict → (order : List ℕ) → List ℕ
-verdict_text texts new Same order = codes " SAME"
-verdict_text texts new Reordered order = codes " ORDER" ++ after_blanks order
-verdict_text texts new (NotLegal number missing) order = not_legal_text texts new order number missing
-verdict_text texts new (OtherNew line) order = codes " OTHER CODE NEW LINE " ++ decimal line
-verdict_text texts new (OtherOld line) order = codes " OTHER CODE LINE " ++ decimal line
+abbrev pub block_verdict_text : (texts : Bool) (new : Option Block) → BlockVerdict → (order : List ℕ) → List ℕ
+block_verdict_text texts new Same order = codes " SAME"
+block_verdict_text texts new Reordered order = codes " ORDER" ++ after_blanks order
+block_verdict_text texts new (NotLegal number missing) order = not_legal_text texts new order number missing
+block_verdict_text texts new (OtherNew line) order = codes " OTHER CODE NEW LINE " ++ decimal line
+block_verdict_text texts new (OtherOld line) order = codes " OTHER CODE LINE " ++ decimal line
 
 abbrev pub side_text : Side → List ℕ
 side_text s = codes " LINE " ++ decimal s.line ++ codes " COUNT " ++ decimal s.count ++ codes " TIME " ++ decimal s.time
 
 -- a block that one source lacks has its own half of the line
-abbrev pub row_text : (texts : Bool) (block : Option Block) → Row → List ℕ
-row_text texts block (Both old new said) = side_text old ++ codes " NEW" ++ side_text new ++ verdict_text texts block said.verdict said.order
-row_text texts block (OldAlone old) = side_text old ++ codes " GONE"
-row_text texts block (NewAlone new) = codes " NEW" ++ side_text new ++ codes " ADDED"
+abbrev pub compared_row_text : (texts : Bool) (block : Option Block) → Row → List ℕ
+compared_row_text texts block (Both old new said) = side_text old ++ codes " NEW" ++ side_text new ++ block_verdict_text texts block said.verdict said.order
+compared_row_text texts block (OldAlone old) = side_text old ++ codes " GONE"
+compared_row_text texts block (NewAlone new) = codes " NEW" ++ side_text new ++ codes " ADDED"
 
 -- of a row, before which n blocks of the old source and m of the new one come; a block has the old source's number if it is in it
 abbrev pub row_line : (texts : Bool) (new : List Block) (n m : ℕ) → Row → List ℕ
-row_line texts new n m row = codes "BLOCK " ++ decimal (if has_old row then n + 1 else m + 1) ++ row_text texts (slice_get new m) row
+row_line texts new n m row = codes "BLOCK " ++ decimal (if has_old row then n + 1 else m + 1) ++ compared_row_text texts (slice_get new m) row
 
 -- of these rows
 abbrev pub row_lines : (texts : Bool) (new : List Block) (n m : ℕ) → List Row → List ℕ
@@ -48,13 +48,13 @@ row_lines texts new n m (row ∷ rows) =
 
 -- WHAT STANDS BESIDE THEM
 
-abbrev pub line_text : List ℕ → Option ℕ → List ℕ
-line_text name None = []
-line_text name (Some line) = name ++ decimal line
+abbrev pub source_line_text : List ℕ → Option ℕ → List ℕ
+source_line_text name None = []
+source_line_text name (Some line) = name ++ decimal line
 
 abbrev pub difference_line : Option Difference → List ℕ
 difference_line None = []
-difference_line (Some d) = codes "DIFFERS" ++ line_text (codes " LINE ") d.old ++ line_text (codes " NEW LINE ") d.new ++ codes "\n"
+difference_line (Some d) = codes "DIFFERS" ++ source_line_text (codes " LINE ") d.old ++ source_line_text (codes " NEW LINE ") d.new ++ codes "\n"
 
 -- ALL
 

@@ -8,12 +8,12 @@ abbrev pub texts_of : Block → List (List ℕ)
 texts_of block = map (whole_text_of block) (numbers (instrs_of block))
 
 -- of a number: it isn't among these, and its instruction has this text
-abbrev pub is_open : Block → (taken : List ℕ) (text : List ℕ) → ℕ → Bool
-is_open old taken text n = bytes_eq (whole_text_of old n) text && not (has n taken)
+abbrev pub is_untaken : Block → (taken : List ℕ) (text : List ℕ) → ℕ → Bool
+is_untaken old taken text n = bytes_eq (whole_text_of old n) text && not (has n taken)
 
 -- the first number that is so; 0 if none is
 abbrev pub partner : Block → (taken : List ℕ) (text : List ℕ) → ℕ
-partner old taken text = first_that (is_open old taken text) (numbers (instrs_of old))
+partner old taken text = first_that (is_untaken old taken text) (numbers (instrs_of old))
 
 -- each text takes its partner, as long as there is one
 abbrev pub partners : Block → (taken : List ℕ) → List (List ℕ) → List ℕ

@@ -3,7 +3,7 @@
 ghost use Rattle.std.specs.Prelude.{◌≡◌, ◌≤◌, IfSome, IfNone, length};
 ghost use Rattle.s66_isa.specs.{has, BLOCK_LIMIT};
 ghost use Rattle.s66_line.specs.{instrs_of};
-ghost use Rattle.s66_compare.specs.{AreWithin, first_left, is_open, paired, partner};
+ghost use Rattle.s66_compare.specs.{AreWithin, first_left, is_untaken, paired, partner};
 
 use arrayvec::ArrayVec;
 use s66_isa::BLOCK_LIMIT;
@@ -24,7 +24,7 @@ pub(crate) fn is_among(number: u8, numbers: &[u8]) -> bool
 /// Whether an instruction of the old block has this text and isn't taken.
 fn is_open(old: &Block, taken: &[u8], text: &[u8], number: u8) -> bool
     requires { (1 ≤ number) × (number ≤ length (instrs_of old.now)) }
-    ensures { result ≡ is_open old.now taken.now text.now number }
+    ensures { result ≡ is_untaken old.now taken.now text.now number }
 {
     old.whole_text(number as usize).as_slice() == text && !is_among(number, taken)
 }

@@ -4,7 +4,7 @@
 ghost use Rattle.std.specs.Prelude.{◌≡◌, ◌≤◌, ◌*◌, ◌^◌, ◌<◌, ◌++◌, codes, decimal, length, slice_get, IfOk, OnOk};
 ghost use Rattle.s66_isa.specs.{after_blanks, tally, weigh};
 ghost use Rattle.s66_source.specs.{SOURCE_LINES_LIMIT};
-ghost use Rattle.s66_compare.specs.{compared_text, difference_line, ending_text, line_text, row_line, row_lines, not_legal_text, row_text, side_text, sums_text, total_text, verdict_text, has_new};
+ghost use Rattle.s66_compare.specs.{compared_text, difference_line, ending_text, source_line_text, row_line, row_lines, not_legal_text, compared_row_text, side_text, sums_text, total_text, block_verdict_text, has_new};
 ghost use Rattle.s66_compare.specs.{has_old, is_legal, new_time, old_time};
 
 use crate::broken::push_broken;
@@ -73,7 +73,7 @@ fn push_verdict(
     judged: &Judged,
 ) -> Result<(), AllocError>
     ensures { OnOk result (out.new.items ≡ out.old.items ++
-        verdict_text text (slice_get new.now place) judged.now.verdict judged.now.order) }
+        block_verdict_text text (slice_get new.now place) judged.now.verdict judged.now.order) }
 {
     match judged.verdict {
         BlockVerdict::Same => out.extend_from_slice(b" SAME"),
@@ -110,7 +110,7 @@ fn push_row_text(
     place: usize,
     row: &Row,
 ) -> Result<(), AllocError>
-    ensures { OnOk result (out.new.items ≡ out.old.items ++ row_text text (slice_get new.now place) row.now) }
+    ensures { OnOk result (out.new.items ≡ out.old.items ++ compared_row_text text (slice_get new.now place) row.now) }
 {
     match row {
         Row::Both {
@@ -180,7 +180,7 @@ fn push_rows(out: &mut Vec<u8>, text: bool, new: &[Block], rows: &[Row]) -> Resu
 
 /// A line after this name, if there is one.
 fn push_line(out: &mut Vec<u8>, name: &[u8], line: Option<u32>) -> Result<(), AllocError>
-    ensures { OnOk result (out.new.items ≡ out.old.items ++ line_text name.now line) }
+    ensures { OnOk result (out.new.items ≡ out.old.items ++ source_line_text name.now line) }
 {
     match line {
         Some(line) => push_field(out, name, line as usize),

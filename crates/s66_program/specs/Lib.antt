@@ -42,7 +42,7 @@ pub use TimeText.{trace_lines}
 pub use DepsText.{needs_line, needs_lines, named, pair_line, pair_lines}
 pub use BestReasons.{best_reasons}
 pub use WhyText.{waits_lines, IsWhyOutput}
-pub use Statement.{is_same, name_in, location_of, name_of, begins_word, behind_commas, target_in, is_one_of, is_conditional, step_by, step_of, is_end, passes, branches, target_of}
+pub use Statement.{is_same, name_in, location_of, name_of_part, begins_word, behind_commas, target_in, is_named_among, is_conditional, step_by, step_of, is_end_step, is_passed_by_loops, branches, target_of}
 pub use Entries.{last_name, or_last, entries_from, entries_of, entry_at}
 pub use JsonText.{written_line, IsJsonOutput}
 pub use OrderText.{placed_by, rise_from, given_by, all_given, given_part, columns_by, IsOrdered, all_placed, placed_part}
@@ -53,10 +53,10 @@ pub use LintText.{lint_status, IsLintOutput}
 pub use GuardText.{IsGuardOutput}
 pub use Moved.{longest_above, moved}
 pub use Words.{parcel_after, words_for, words_of}
-pub use Loops.{Orders, word_from, begin_at, step_after, block_after, part_after, counted, parcels_through, loop_through, start_before, start_of, loop_closed, or_else, loop_behind, loops_from}
+pub use Loops.{Orders, word_from, begin_at, step_after, block_after, part_after, counted, parcels_through, loop_through, loop_start_before, loop_start_of, loop_closed, loop_or_else, loop_behind, loops_from}
 pub use Loops.{loops_of, loop_at}
-pub use SumText.{row_of, rows_of, AreNumbered, is_best, MayPrecede, AreInOrder, bound_text, splits_text, words_text, counts_text, line_end, ending_of, loop_mark, entry_text, row_end, row_line}
-pub use SumText.{row_lines, splits_in, total_of, total_times, total_line, profile_line, IsSumText, orders_of, IsSumOutput}
+pub use SumText.{sum_row_of, sum_rows_of, AreNumbered, is_row_best, MayPrecede, AreInOrder, sum_bound_text, splits_text, words_text, sum_counts_text, line_end, ending_of, loop_mark, entry_text, row_end, sum_row_line}
+pub use SumText.{sum_row_lines, splits_in, sum_total_of, total_times, sum_total_line, sum_profile_line, IsSumText, orders_of, IsSumOutput}
 pub use CompareText.{IsViewOf, IsViewOutput, IsCompareOutput}
 pub use OrderedAgain.{written_time, with_times, TakePrintedTimes}
 pub use Reports.{EndsIn, IsReported, is_asked, AreChosen, ReportsBlocks}
@@ -68,7 +68,7 @@ pub use ReadFaults.{IsReadFault}
 pub use Hints.{source_way_out, way_out}
 pub use Comparing.{IsNewRefusal, IsCompareRefusal}
 pub use Output.{IsUnder, source_in, IsAskedOutput, IsOutput, is_source, reads_source, shows_blocks}
-pub use Remarks.{lines_word, found_words, lint_words, listed_line, regions_line, missing_line, remark_text, is_deep, bounded_line, told_text, IsTold, prints_orders, without_blocks, without_block}
+pub use Remarks.{lines_word, found_words, lint_words, listed_line, regions_line, missing_line, remark_text, asks_for_facts, bounded_line, told_text, IsTold, prints_orders, without_blocks, without_block}
 pub use Remarks.{missing_of_source, missing_of_documents, counted_source, IsCount, IsRemark, raised}
 pub use Run.{IsRefusal, IsOutcomeUnder, IsProfileFault, IsOutcome}
 pub use Ends.{EndsAt, EndsWith, EndsByFault, ShowsUsage, LacksWords}

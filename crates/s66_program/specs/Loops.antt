@@ -4,7 +4,7 @@ use Rattle.s66_isa.specs.{numbers}
 use Rattle.s66_model.specs.{fits_at}
 use Rattle.s66_line.specs.{Block, instrs_of}
 use Rattle.s66_source.specs.{FramePart, frame_of, Reading, Placed}
-use Rattle.s66_program.specs.Statement.{begins_word, is_end, is_same, name_of, step_of, target_of, passes}
+use Rattle.s66_program.specs.Statement.{begins_word, is_end_step, is_same, name_of_part, step_of, target_of, is_passed_by_loops}
 use Rattle.s66_program.specs.Words.{parcel_after, words_for}
 use Rattle.s66_program.specs.declared.limits.TheConstants.{LOOP_LIMIT}
 use Rattle.s66_program.specs.declared.loops.Loop.{Loop}
@@ -62,23 +62,23 @@ loop_through o place parts =
 
 -- of the parts before a branch, the nearest first, those from the nearest with this name on, if a loop may go through all of them, that
 -- one too: how many they are, after so many, and how many of them are blocks
-abbrev pub start_before : (name : List ℕ) (parts blocks : ℕ) → List FramePart → Option Start
-start_before name parts blocks [] = None
-start_before name parts blocks (p ∷ earlier) =
-    if not (passes p) then None
+abbrev pub loop_start_before : (name : List ℕ) (parts blocks : ℕ) → List FramePart → Option Start
+loop_start_before name parts blocks [] = None
+loop_start_before name parts blocks (p ∷ earlier) =
+    if not (is_passed_by_loops p) then None
     else (
-    if is_same (name_of p) name then Some (record { parts = suc parts; blocks = counted blocks p })
-    else start_before name (suc parts) (counted blocks p) earlier
+    if is_same (name_of_part p) name then Some (record { parts = suc parts; blocks = counted blocks p })
+    else loop_start_before name (suc parts) (counted blocks p) earlier
     )
 
 -- the parts from a place to before another one
-abbrev pub between : (from to : ℕ) → List FramePart → List FramePart
-between from to parts = take (to - from) (drop from parts)
+abbrev pub parts_between : (from to : ℕ) → List FramePart → List FramePart
+parts_between from to parts = take (to - from) (drop from parts)
 
 -- where the loop begins that the line at a place closes, if it goes back to a name
-abbrev pub start_of : List FramePart → (at : ℕ) → (target : List ℕ) → Option Start
-start_of parts at [] = None
-start_of parts at (b ∷ target) = start_before (b ∷ target) 0 0 (reverse (between (at - LOOP_LIMIT) at parts))
+abbrev pub loop_start_of : List FramePart → (at : ℕ) → (target : List ℕ) → Option Start
+loop_start_of parts at [] = None
+loop_start_of parts at (b ∷ target) = loop_start_before (b ∷ target) 0 0 (reverse (parts_between (at - LOOP_LIMIT) at parts))
 
 -- WHICH LOOPS
 
@@ -87,21 +87,21 @@ abbrev pub loop_from : Orders → List FramePart → (at blocks : ℕ) → Optio
 loop_from o parts at blocks None = None
 loop_from o parts at blocks (Some s) =
     if s.blocks == 0 || nat_lt blocks (o.before + s.blocks) then None
-    else Some (loop_through o (blocks - (o.before + s.blocks)) (between (at - s.parts) (at + 1) parts))
+    else Some (loop_through o (blocks - (o.before + s.blocks)) (parts_between (at - s.parts) (at + 1) parts))
 
 abbrev pub loop_closed : Orders → List FramePart → (at blocks : ℕ) → FramePart → Option Loop
-loop_closed o parts at blocks p = loop_from o parts at blocks (start_of parts at (target_of p))
+loop_closed o parts at blocks p = loop_from o parts at blocks (loop_start_of parts at (target_of p))
 
-abbrev pub or_else : Option Loop → Option Loop → Option Loop
-or_else None other = other
-or_else (Some l) other = Some l
+abbrev pub loop_or_else : Option Loop → Option Loop → Option Loop
+loop_or_else None other = other
+loop_or_else (Some l) other = Some l
 
 -- the last loop that a line behind a block closes: of these from a place on, those before the next block and before a line that ends it
 abbrev pub loop_behind : Orders → List FramePart → (blocks at : ℕ) → Option Loop → List FramePart → Option Loop
 loop_behind o parts blocks at closed [] = closed
 loop_behind o parts blocks at closed (p ∷ rest) =
-    if p.is_block || is_end (step_of p.bytes) then closed
-    else loop_behind o parts blocks (suc at) (or_else (loop_closed o parts at blocks p) closed) rest
+    if p.is_block || is_end_step (step_of p.bytes) then closed
+    else loop_behind o parts blocks (suc at) (loop_or_else (loop_closed o parts at blocks p) closed) rest
 
 -- of each block among these parts from a place on, before which so many blocks come
 abbrev pub loops_from : Orders → List FramePart → (blocks at : ℕ) → List FramePart → List (Option Loop)

@@ -55,8 +55,8 @@ abbrev pub remark_text : Remark → List ℕ
 remark_text r = missing_line r.missing ++ listed_line r.cut r.listed ++ regions_line r.regions r.lines
 
 -- it asks for a search by facts
-abbrev pub is_deep : Command → Bool
-is_deep command = unwrap_or (option_map (λ (s : Strategy). s.deep) (strategy_of command.asked)) false
+abbrev pub asks_for_facts : Command → Bool
+asks_for_facts command = unwrap_or (option_map (λ (s : Strategy). s.deep) (strategy_of command.asked)) false
 
 -- that so many of so many blocks are only bounded, and what may decide them
 abbrev pub bounded_line : Status → List ℕ
@@ -67,7 +67,7 @@ bounded_line status = []
 
 -- what is told of the input, and without `--deep` of what is only bounded
 abbrev pub told_text : Command → Ended → List ℕ
-told_text command ended = remark_text ended.remark ++ (if is_deep command then [] else bounded_line ended.status)
+told_text command ended = remark_text ended.remark ++ (if asks_for_facts command then [] else bounded_line ended.status)
 
 -- a text was printed; without one the writer isn't called
 abbrev pub IsTold : List ℕ → Writer → Writer → Type 0

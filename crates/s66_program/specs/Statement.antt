@@ -23,8 +23,8 @@ name_in (b ∷ (c ∷ bytes)) = b ∷ (c ∷ bytes)
 abbrev pub location_of : FramePart → List ℕ
 location_of p = if p.is_block then p.bytes else (if has_operation p.bytes then location p.bytes else [])
 
-abbrev pub name_of : FramePart → List ℕ
-name_of p = name_in (location_of p)
+abbrev pub name_of_part : FramePart → List ℕ
+name_of_part p = name_in (location_of p)
 
 -- what has a location begins a word, unless that is `-`
 abbrev pub begins_word : FramePart → Bool
@@ -50,11 +50,11 @@ conditional_branches =
     codes "ZR" ∷ codes "NZ" ∷ codes "PL" ∷ codes "NG" ∷ codes "MI" ∷ codes "IR" ∷ codes "OR" ∷ codes "DF" ∷ codes "ID" ∷ codes "NE" ∷ codes "GE"
     ∷ codes "GT" ∷ codes "LT" ∷ codes "LE" ∷ []
 
-abbrev pub is_one_of : List (List ℕ) → List ℕ → Bool
-is_one_of names name = some_of (λ known. is_same known name) names
+abbrev pub is_named_among : List (List ℕ) → List ℕ → Bool
+is_named_among names name = some_of (λ known. is_same known name) names
 
 abbrev pub is_conditional : (operation operand : List ℕ) → Bool
-is_conditional name text = is_one_of conditional_branches name || (is_same (codes "EQ") name && compares text)
+is_conditional name text = is_named_among conditional_branches name || (is_same (codes "EQ") name && compares text)
 
 -- LINES
 
@@ -67,13 +67,13 @@ step_by name text =
 abbrev pub step_of : (line : List ℕ) → Step
 step_of line = if has_operation line then step_by (operation line) (operand line) else Nothing
 
-abbrev pub is_end : Step → Bool
-is_end End = true
-is_end step = false
+abbrev pub is_end_step : Step → Bool
+is_end_step End = true
+is_end_step step = false
 
 -- a loop may go through it
-abbrev pub passes : FramePart → Bool
-passes p = p.is_block || not (is_end (step_of p.bytes))
+abbrev pub is_passed_by_loops : FramePart → Bool
+is_passed_by_loops p = p.is_block || not (is_end_step (step_of p.bytes))
 
 abbrev pub branches : Step → Bool
 branches Branch = true

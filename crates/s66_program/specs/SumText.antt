@@ -21,8 +21,8 @@ use Rattle.s66_program.specs.declared.sum_text.Total.{Total}
 -- ROWS
 
 -- of the n-th block, from 1, as `order` prints it
-abbrev pub row_of : ℕ → Block → Placed → Row
-row_of n block p =
+abbrev pub sum_row_of : ℕ → Block → Placed → Row
+sum_row_of n block p =
     record {
       number = n;
       line = line_of block 1;
@@ -38,16 +38,16 @@ row_of n block p =
     }
 
 -- of these blocks, before which n come
-abbrev pub rows_of : ℕ → List Block → List Placed → List Row
-rows_of n (block ∷ blocks) (p ∷ ps) = row_of (n + 1) block p ∷ rows_of (n + 1) blocks ps
-rows_of n blocks ps = []
+abbrev pub sum_rows_of : ℕ → List Block → List Placed → List Row
+sum_rows_of n (block ∷ blocks) (p ∷ ps) = sum_row_of (n + 1) block p ∷ sum_rows_of (n + 1) blocks ps
+sum_rows_of n blocks ps = []
 
 -- in the order of their blocks
 abbrev pub AreNumbered : List Row → Type 0
 AreNumbered rows = (k : ℕ) (d : Row) → k + 1 < length rows → (slice_index_or rows k d).number ≤ (slice_index_or rows (k + 1) d).number
 
-abbrev pub is_best : Row → Bool
-is_best r = r.bound == r.time
+abbrev pub is_row_best : Row → Bool
+is_row_best r = r.bound == r.time
 
 -- the first saves more, or as much with a number that is no greater
 abbrev pub MayPrecede : Row → Row → Type 0
@@ -58,8 +58,8 @@ AreInOrder rows = (k : ℕ) (d : Row) → k + 1 < length rows → MayPrecede (sl
 
 -- THE TEXT
 
-abbrev pub bound_text : Row → List ℕ
-bound_text r = if is_best r then codes " BEST" else (codes " AT LEAST " ++ decimal r.bound)
+abbrev pub sum_bound_text : Row → List ℕ
+sum_bound_text r = if is_row_best r then codes " BEST" else (codes " AT LEAST " ++ decimal r.bound)
 
 -- how many splits there are, if that is to be printed
 abbrev pub splits_text : Option ℕ → List ℕ
@@ -71,12 +71,12 @@ abbrev pub words_text : (shown : Bool) → LineEnd → List ℕ
 words_text shown e = if shown then (codes " WORDS " ++ decimal e.source_words ++ codes " FOUND " ++ decimal e.words) else []
 
 -- how many instructions orders move, splits and words
-abbrev pub counts_text : (words : Bool) → LineEnd → List ℕ
-counts_text words e = codes " MOVED " ++ decimal e.moved ++ splits_text e.splits ++ words_text words e
+abbrev pub sum_counts_text : (words : Bool) → LineEnd → List ℕ
+sum_counts_text words e = codes " MOVED " ++ decimal e.moved ++ splits_text e.splits ++ words_text words e
 
 -- the end of a line
 abbrev pub line_end : (words : Bool) → LineEnd → List ℕ
-line_end words e = counts_text words e ++ codes "\n"
+line_end words e = sum_counts_text words e ++ codes "\n"
 
 -- that of a row; the words are those of the loop that a branch behind its block closes, or else of the block
 abbrev pub ending_of : Option Loop → Row → LineEnd
@@ -94,18 +94,18 @@ entry_text [] = []
 entry_text (b ∷ name) = codes " ENTRY " ++ b ∷ name
 
 abbrev pub row_end : (words : Bool) → Option Loop → (entry : List ℕ) → Row → List ℕ
-row_end words closed entry r = counts_text words (ending_of closed r) ++ loop_mark words closed ++ entry_text entry ++ codes "\n"
+row_end words closed entry r = sum_counts_text words (ending_of closed r) ++ loop_mark words closed ++ entry_text entry ++ codes "\n"
 
-abbrev pub row_line : (words : Bool) → Option Loop → (entry : List ℕ) → Row → List ℕ
-row_line words closed entry r =
+abbrev pub sum_row_line : (words : Bool) → Option Loop → (entry : List ℕ) → Row → List ℕ
+sum_row_line words closed entry r =
     codes "BLOCK " ++ decimal r.number ++ codes " LINE " ++ decimal r.line ++ codes " COUNT " ++ decimal r.count ++ codes " SOURCE "
-    ++ decimal r.source ++ codes " TIME " ++ decimal r.time ++ bound_text r
+    ++ decimal r.source ++ codes " TIME " ++ decimal r.time ++ sum_bound_text r
     ++ row_end words closed entry r
 
 -- by the loops behind all blocks of the source, and their names
-abbrev pub row_lines : (words : Bool) → List (Option Loop) → (entries : List (List ℕ)) → List Row → List ℕ
-row_lines words loops entries [] = []
-row_lines words loops entries (r ∷ rows) = row_line words (loop_at loops r.number) (entry_at entries r.number) r ++ row_lines words loops entries rows
+abbrev pub sum_row_lines : (words : Bool) → List (Option Loop) → (entries : List (List ℕ)) → List Row → List ℕ
+sum_row_lines words loops entries [] = []
+sum_row_lines words loops entries (r ∷ rows) = sum_row_line words (loop_at loops r.number) (entry_at entries r.number) r ++ sum_row_lines words loops entries rows
 
 -- the splits of a row
 abbrev pub splits_in : Row → ℕ
@@ -116,13 +116,13 @@ abbrev pub all_splits : Bool → List Row → Option ℕ
 all_splits trace rows = if trace then Some (weigh splits_in rows) else None
 
 -- what all rows come to, with the trace also in splits
-abbrev pub total_of : (trace : Bool) → List Row → Total
-total_of trace rows =
+abbrev pub sum_total_of : (trace : Bool) → List Row → Total
+sum_total_of trace rows =
     record {
       blocks = length rows;
       source = weigh (λ (r : Row). r.source) rows;
       time = weigh (λ (r : Row). r.time) rows;
-      best = tally is_best rows;
+      best = tally is_row_best rows;
       ending = record { moved = weigh (λ (r : Row). r.moved) rows; splits = all_splits trace rows; source_words = weigh (λ (r : Row). r.source_words) rows; words = weigh (λ (r : Row). r.words) rows };
     }
 
@@ -131,19 +131,19 @@ abbrev pub total_times : Total → List ℕ
 total_times t = codes "TOTAL BLOCKS " ++ decimal t.blocks ++ codes " SOURCE " ++ decimal t.source ++ codes " TIME " ++ decimal t.time
 
 -- and how many orders are best, and the end of the line
-abbrev pub total_line : (words : Bool) → Total → List ℕ
-total_line words t = total_times t ++ codes " BEST " ++ decimal t.best ++ line_end words t.ending
+abbrev pub sum_total_line : (words : Bool) → Total → List ℕ
+sum_total_line words t = total_times t ++ codes " BEST " ++ decimal t.best ++ line_end words t.ending
 
 -- the numbers of the profile that aren't the standard profile's, if there are any
-abbrev pub profile_line : List Change → List ℕ
-profile_line [] = []
-profile_line (c ∷ cs) = codes "PROFILE" ++ changes_text (c ∷ cs) ++ codes "\n"
+abbrev pub sum_profile_line : List Change → List ℕ
+sum_profile_line [] = []
+sum_profile_line (c ∷ cs) = codes "PROFILE" ++ changes_text (c ∷ cs) ++ codes "\n"
 
 -- the profile, the rows in their order, and their sums
 abbrev pub IsSumText : Profile → SumStyle → List (Option Loop) → (entries : List (List ℕ)) (rows : List Row) (text : List ℕ) → Type 0
 IsSumText p style loops entries rows text =
     (ordered : List Row) × IsPermutation rows ordered × AreInOrder ordered
-    × (text ≡ profile_line (changes p) ++ row_lines style.words loops entries ordered ++ total_line style.words (total_of style.trace rows))
+    × (text ≡ sum_profile_line (changes p) ++ sum_row_lines style.words loops entries ordered ++ sum_total_line style.words (sum_total_of style.trace rows))
 
 -- the blocks that are shown with the orders that were found for them
 abbrev pub orders_of : (only : Option ℕ) → List Block → List Placed → Orders
@@ -153,4 +153,4 @@ orders_of only blocks ps = record { before = before only; blocks = blocks; found
 abbrev pub IsSumOutput : Strategy → Profile → SumStyle → (only : Option ℕ) (source : Reading) (text : List ℕ) → Status → Type 0
 IsSumOutput strategy p style only source text status =
     IsOfAnswers (λ blocks answers. let ps = all_placed p style.trace blocks answers in
-    IsSumText p style (loops_of (orders_of only blocks ps) source) (entries_of source) (rows_of (before only) blocks ps) text) strategy p only source status
+    IsSumText p style (loops_of (orders_of only blocks ps) source) (entries_of source) (sum_rows_of (before only) blocks ps) text) strategy p only source status

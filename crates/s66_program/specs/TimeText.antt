@@ -13,8 +13,8 @@ use Rattle.s66_program.specs.BlockHead.{block_head}
 use Rattle.s66_program.specs.Listing.{IsListing}
 
 -- the parcels of the instructions, no NO among them
-abbrev pub parcels_in : List Instr → ℕ
-parcels_in block = weigh (λ (n : Instr). parcels_of n.op.code) block
+abbrev pub block_parcels : List Instr → ℕ
+block_parcels block = weigh (λ (n : Instr). parcels_of n.op.code) block
 
 -- how many NOs fill up words if the instructions are in the order in which they were written
 abbrev pub fillers_as_written : List Instr → ℕ
@@ -24,7 +24,7 @@ fillers_as_written block = length (fillers 0 (map (len_at block) (numbers block)
 abbrev pub time_line : Profile → ℕ → Block → List ℕ
 time_line p n block =
     block_head n block ++ codes " COUNT " ++ decimal (length (instrs_of block))
-    ++ codes " PARCELS " ++ decimal (parcels_in (instrs_of block)) ++ codes " NO " ++ decimal (fillers_as_written (instrs_of block))
+    ++ codes " PARCELS " ++ decimal (block_parcels (instrs_of block)) ++ codes " NO " ++ decimal (fillers_as_written (instrs_of block))
     ++ codes " TIME " ++ decimal (total_time (as_written p (instrs_of block))) ++ codes "\n"
 
 -- the line of the instruction of this number, at a position, from 0

@@ -2,7 +2,7 @@
 
 ghost use Rattle.std.specs.Prelude.{◌≡◌, ◌≤◌, ◌<◌, ◌+◌, ◌^◌, IfOk, IfSome, None, drop, length, reverse};
 ghost use Rattle.s66_source.specs.{ArePlaced};
-ghost use Rattle.s66_program.specs.{begin_at, counted, loop_at, loops_of, or_else, start_before, start_of, step_after, word_from, Branch, LOOP_LIMIT};
+ghost use Rattle.s66_program.specs.{begin_at, counted, loop_at, loops_of, loop_or_else, loop_start_before, loop_start_of, step_after, word_from, Branch, LOOP_LIMIT};
 
 use crate::limits::LOOP_LIMIT;
 use crate::statement::{Step, begins_word, is_same, name_of, passes, step_of, target_of};
@@ -107,7 +107,7 @@ fn counted(blocks: usize, part: &FramePart) -> usize
 /// Of the parts before a branch those from the last with this name on, if a loop may go through all of them.
 fn start_before(earlier: &[FramePart], name: &[u8]) -> Option<Start>
     requires { length earlier.now ≤ LOOP_LIMIT }
-    ensures value { result ≡ start_before name.now 0 0 (reverse earlier.now) }
+    ensures value { result ≡ loop_start_before name.now 0 0 (reverse earlier.now) }
     ensures within { IfSome result (λ s. s.parts ≤ length earlier.now) }
     ensures few { IfSome result (λ s. s.blocks ≤ LOOP_LIMIT) }
 {
@@ -131,7 +131,7 @@ fn start_before(earlier: &[FramePart], name: &[u8]) -> Option<Start>
 /// Where the loop begins that the line at a place closes, if it goes back to a name.
 fn start_of(parts: &[FramePart], at: usize, target: &[u8]) -> Option<Start>
     requires { at ≤ length parts.now }
-    ensures value { result ≡ start_of parts.now at target.now }
+    ensures value { result ≡ loop_start_of parts.now at target.now }
     ensures within { IfSome result (λ s. s.parts ≤ at) }
     ensures few { IfSome result (λ s. (s.parts ≤ LOOP_LIMIT) × (s.blocks ≤ LOOP_LIMIT)) }
 {
@@ -143,7 +143,7 @@ fn start_of(parts: &[FramePart], at: usize, target: &[u8]) -> Option<Start>
 
 /// The first loop, or the second one if there is none.
 fn or_else(closed: Option<Loop>, other: Option<Loop>) -> Option<Loop>
-    ensures { result ≡ or_else closed other }
+    ensures { result ≡ loop_or_else closed other }
 {
     match closed {
         Some(closed) => Some(closed),

@@ -5,7 +5,7 @@ ghost use Rattle.std.specs.Prelude.{ℕ, List, [], ◌≡◌, ◌==◌, ◌<◌,
 ghost use Rattle.s66_command.specs.{reads_cut, reads_of};
 ghost use Rattle.s66_command.specs.declared.command.Reads.TheVariants as reads;
 ghost use Rattle.s66_source.specs.{source_of};
-ghost use Rattle.s66_program.specs.{shows_blocks, source_in, IsCount, IsRemark, bounded_line, counted_source, found_words, is_deep, lines_word, lint_words, listed_line, missing_line};
+ghost use Rattle.s66_program.specs.{shows_blocks, source_in, IsCount, IsRemark, bounded_line, counted_source, found_words, asks_for_facts, lines_word, lint_words, listed_line, missing_line};
 ghost use Rattle.s66_program.specs.{missing_of_documents, missing_of_source, prints_orders, raised, regions_line, without_block, without_blocks};
 ghost use Rattle.s66_program.specs.declared.remark.Missing.TheVariants as missing;
 
@@ -191,7 +191,7 @@ impl Remark {
 
 /// Whether a command asks for a search by facts.
 fn is_deep(command: Command) -> bool
-    ensures { result ≡ is_deep command.entry }
+    ensures { result ≡ asks_for_facts command.entry }
 {
     match command.asked.strategy() {
         Some(strategy) => strategy.deep,

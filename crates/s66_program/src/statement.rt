@@ -3,7 +3,7 @@
 ghost use Rattle.std.specs.Prelude.{ℕ, List, ◌≡◌, map};
 ghost use Rattle.std.specs.Borrow.{Bor};
 ghost use Rattle.s66_source.specs.{has_operation};
-ghost use Rattle.s66_program.specs.{begins_word, is_conditional, is_one_of, is_same, location_of, name_in, name_of, passes, step_by, step_of, target_in, target_of};
+ghost use Rattle.s66_program.specs.{begins_word, is_conditional, is_named_among, is_same, location_of, name_in, name_of_part, is_passed_by_loops, step_by, step_of, target_in, target_of};
 
 use s66_line::{fields_of, is_comment_line, is_continuation, operation_and_operand};
 use s66_source::FramePart;
@@ -31,10 +31,10 @@ pub(crate) enum Step {
 
 impl Step {
     ghost use Rattle.std.specs.Prelude.{◌≡◌};
-    ghost use Rattle.s66_program.specs.{branches, is_end};
+    ghost use Rattle.s66_program.specs.{branches, is_end_step};
 
     pub(crate) fn is_end(&self) -> bool
-        ensures { result ≡ is_end self.now }
+        ensures { result ≡ is_end_step self.now }
     {
         matches!(self, Step::End)
     }
@@ -85,7 +85,7 @@ fn location_of<'a>(part: &FramePart<'a>) -> &'a [u8]
 
 /// What a block or a line is called.
 pub(crate) fn name_of<'a>(part: &FramePart<'a>) -> &'a [u8]
-    ensures { result.now ≡ name_of part.now }
+    ensures { result.now ≡ name_of_part part.now }
 {
     name_in(location_of(part))
 }
@@ -115,7 +115,7 @@ fn target_in(operand: &[u8]) -> &[u8]
 
 /// Whether a name is one of these, in upper or in lower case.
 fn is_one_of(names: &[&[u8]], name: &[u8]) -> bool
-    ensures { result ≡ is_one_of (map (λ (known : Bor (List ℕ)). known.now) names.now) name.now }
+    ensures { result ≡ is_named_among (map (λ (known : Bor (List ℕ)). known.now) names.now) name.now }
 {
     for known in names {
         if is_same(known, name) {
@@ -162,7 +162,7 @@ pub(crate) fn step_of(line: &[u8]) -> Step
 
 /// Whether a loop may go through a block or a line.
 pub(crate) fn passes(part: &FramePart) -> bool
-    ensures { result ≡ passes part.now }
+    ensures { result ≡ is_passed_by_loops part.now }
 {
     part.is_block || !step_of(part.bytes).is_end()
 }

@@ -18,7 +18,7 @@ use Rattle.s66_moments.proofs.SupposedLines.{after-stands, closed-sound}
 use Rattle.s66_moments.proofs.Spans.{height-some}
 use Rattle.s66_cert.specs.{Document}
 use Rattle.s66_checker.specs.{AreTaken, facts_of, known_of, problem_of, standing_of}
-use Rattle.s66_reasons.specs.{Hop, Work, load_end, work_of_load, Reason, arcs, at_end_words, by_words, hop_rows, hops_of, later_words, load_row, pairs_of, path_rows, table_rows, to_end, issue_row}
+use Rattle.s66_reasons.specs.{Hop, Work, load_end, work_of_load, Reason, arcs, at_end_words, by_words, hop_rows, hops_of, later_words, longest_load_row, pairs_of, path_rows, table_rows, to_end, issue_row}
 use Rattle.s66_reasons.specs.{next_rows, AreNoSooner, AreRowsOf, HasNoneSooner, IsAlong, IsLoadShown, IsPathShown, last_number, sum_of}
 use Rattle.s66_reasons.proofs.Along.{along, along-high, as-path, end-path, rank-along}
 
@@ -46,7 +46,7 @@ module _ (d : Document) (rises : IsRising (problem_of d) (arcs d)) where
   rows-last number e hop [] r m stage is leads =
       let to : ℕ = number + hop.wait in
       let test : Bool = reaches hop.wait (network b (known_of d).before (At m stage) hop.to) in
-      let one : last_number (r ∷ (hop_rows d to (At m stage) hop ++ [])) ≡ to = end-row d to m stage hop.to test (load_row d to (At m stage) hop) r leads.1 refl in
+      let one : last_number (r ∷ (hop_rows d to (At m stage) hop ++ [])) ≡ to = end-row d to m stage hop.to test (longest_load_row d to (At m stage) hop) r leads.1 refl in
       omega (arith, subst (λ x. last_number (r ∷ (hop_rows d to x hop ++ [])) ≡ to) (sym is) one)
   rows-last number e hop (next ∷ hops) r m stage is leads =
       let to : ℕ = number + hop.wait in
@@ -87,7 +87,7 @@ rows-are d number e (hop ∷ hops) =
     let to : ℕ = number + hop.wait in
     let rest : List Reason = path_rows d to hop.to hops in
     let test : Bool = reaches hop.wait (network (problem_of d) (known_of d).before e hop.to) in
-    (rest, one-of to test (table_rows d to e hop.to) rest (load_row d to e hop) (table-one d to e hop.to) refl, rows-are d to hop.to hops)
+    (rest, one-of to test (table_rows d to e hop.to) rest (longest_load_row d to e hop) (table-one d to e hop.to) refl, rows-are d to hop.to hops)
 
 -- HOW SOON MOMENTS ARE where nothing has been placed
 

@@ -11,7 +11,7 @@ use Rattle.s66_cert.specs.{Document}
 use Rattle.s66_cert.proofs.Printed.{drop-here}
 use Rattle.s66_why.specs.{on_right}
 use Rattle.s66_checker.specs.{problem_of}
-use Rattle.s66_reasons.specs.{Reason, row_text, rows_text, link_row, walk_rows, if_words, line_text, lines_text, is_split, vertex_text}
+use Rattle.s66_reasons.specs.{Reason, row_text, rows_text, link_row, walk_rows, if_words, tree_line_text, lines_text, is_split, vertex_text}
 
 -- its number, its words, and the end of the line
 pub row-pushed : {T E : Type 0} (r : Result T E) (out first second new words : List ℕ) (number : ℕ) → first ≡ out ++ (on_right 4 number ++ codes "  ") →
@@ -58,21 +58,21 @@ module _ (row : ℕ → Reason) (test : ℕ → Bool) (count p : ℕ) (within : 
 
 -- one line of a tree more
 pub lines-more : (d : Document) (lines : List (List ℕ × Vertex Ending)) (place : ℕ) (line : List ℕ × Vertex Ending) (old new : List ℕ) →
-    slice_get lines place ≡ Some line → new ≡ old ++ line_text d line.0 line.1 →
+    slice_get lines place ≡ Some line → new ≡ old ++ tree_line_text d line.0 line.1 →
     new ++ lines_text d (drop (place + 1) lines) ≡ old ++ lines_text d (drop place lines)
 lines-more d lines place line old new found pushed =
     let within = slice_get_within lines place line found in
     let here = drop-here lines place line within (sym (get_or_from_slice_get lines place line line found)) in
     let rest = lines_text d (drop (place + 1) lines) in
-    ap (λ xs. xs ++ rest) pushed ∙ append_assoc old (line_text d line.0 line.1) rest
+    ap (λ xs. xs ++ rest) pushed ∙ append_assoc old (tree_line_text d line.0 line.1) rest
     ∙ ap (λ (ls : List (List ℕ × Vertex Ending)). old ++ lines_text d ls) (sym here)
 
 -- a line at its prefix
 
-pub split-line : (d : Document) (at : List ℕ) (vertex : Vertex Ending) → is_split vertex ≡ true → line_text d at vertex ≡ []
+pub split-line : (d : Document) (at : List ℕ) (vertex : Vertex Ending) → is_split vertex ≡ true → tree_line_text d at vertex ≡ []
 split-line d at (AtSplit numbers) split = refl
 split-line d at (AtTerminal ending) split = absurd (true≢false (sym split))
 
-pub leaf-line : (d : Document) (at : List ℕ) (vertex : Vertex Ending) → is_split vertex ≡ false → line_text d at vertex ≡ if_words at ++ vertex_text d at vertex
+pub leaf-line : (d : Document) (at : List ℕ) (vertex : Vertex Ending) → is_split vertex ≡ false → tree_line_text d at vertex ≡ if_words at ++ vertex_text d at vertex
 leaf-line d at (AtSplit numbers) split = absurd (true≢false split)
 leaf-line d at (AtTerminal ending) split = refl

@@ -90,14 +90,14 @@ pairs_left d = each_left pair_left None (facts_of d)
 abbrev pub loads_left : Document → List (Option LoadLine)
 loads_left d = each_left load_left None (facts_of d)
 
-abbrev pub passes : {X : Type 0} → (X → Bool) → Option X → Bool
-passes test None = false
-passes test (Some x) = test x
+abbrev pub is_some_passing : {X : Type 0} → (X → Bool) → Option X → Bool
+is_some_passing test None = false
+is_some_passing test (Some x) = test x
 
 -- the number of the first of these that is there and passes, if the first of them has this number; 0 if none does
 abbrev pub first_number : {X : Type 0} → (X → Bool) → ℕ → List (Option X) → ℕ
 first_number test number [] = 0
-first_number test number (x ∷ xs) = if passes test x then number else first_number test (number + 1) xs
+first_number test number (x ∷ xs) = if is_some_passing test x then number else first_number test (number + 1) xs
 
 -- m is n, or stands before it by this
 abbrev pub up_to : (before : ℕ → ℕ → Bool) → (m n : ℕ) → Bool
@@ -123,15 +123,15 @@ pair_from d m n =
     if up_to depends m n then 0 else either (pair_by d depends m n) (pair_by d (known_of d).before m n)
 
 -- the second number of the pair that the line of this number leaves
-abbrev pub second_of : Document → (number : ℕ) → ℕ
-second_of d number = (unwrap_or (get_or (pairs_left d) (number - 1) None) (0, 0)).1
+abbrev pub second_of_pair : Document → (number : ℕ) → ℕ
+second_of_pair d number = (unwrap_or (get_or (pairs_left d) (number - 1) None) (0, 0)).1
 
 -- the numbers of pairs, at most so many, that together put m before n: of one, and then of those that put its second before n
 abbrev pub pairs_over : Document → (most m n : ℕ) → List ℕ
 pairs_over d zero m n = []
 pairs_over d (suc more) m n =
     let number : ℕ = pair_from d m n in
-    if number == 0 then [] else number ∷ pairs_over d more (second_of d number) n
+    if number == 0 then [] else number ∷ pairs_over d more (second_of_pair d number) n
 
 -- no more than there are instructions; none if n depends on m
 abbrev pub pairs_of : Document → (m n : ℕ) → List ℕ
@@ -204,14 +204,14 @@ reached_words (At n (Done x)) = []
 reached_words (At n Free) = []
 reached_words End = codes "the end"
 
-abbrev pub load_row : Document → (number : ℕ) → Moment → Hop → Reason
-load_row d number e hop = record { number = number; words = reached_words hop.to ++ codes ", by " ++ decimal (line_of_load d e hop) ++ codes "." }
+abbrev pub longest_load_row : Document → (number : ℕ) → Moment → Hop → Reason
+longest_load_row d number e hop = record { number = number; words = reached_words hop.to ++ codes ", by " ++ decimal (line_of_load d e hop) ++ codes "." }
 
 -- an arc is of the table if that has it as long
 abbrev pub hop_rows : Document → (number : ℕ) → Moment → Hop → List Reason
 hop_rows d number e hop =
     if reaches hop.wait (network (problem_of d) (known_of d).before e hop.to) then table_rows d number e hop.to
-    else load_row d number e hop ∷ []
+    else longest_load_row d number e hop ∷ []
 
 -- the rows of arcs that lead on from e in this minor cycle
 abbrev pub path_rows : Document → (number : ℕ) → Moment → List Hop → List Reason

@@ -151,13 +151,13 @@ if_words [] = []
 if_words (n ∷ ns) = codes "If " ++ decimal n ++ codes " comes first" ++ then_words ns
 
 -- a line at its prefix: of a leaf a paragraph
-abbrev pub line_text : Document → List ℕ → Vertex Ending → List ℕ
-line_text d at (AtSplit numbers) = []
-line_text d at (AtTerminal ending) = if_words at ++ leaf_text d at ending
+abbrev pub tree_line_text : Document → List ℕ → Vertex Ending → List ℕ
+tree_line_text d at (AtSplit numbers) = []
+tree_line_text d at (AtTerminal ending) = if_words at ++ leaf_text d at ending
 
 -- the lines one after the other
 abbrev pub lines_text : Document → List (List ℕ × Vertex Ending) → List ℕ
-lines_text d lines = flat_map (λ (line : List ℕ × Vertex Ending). line_text d line.0 line.1) lines
+lines_text d lines = flat_map (λ (line : List ℕ × Vertex Ending). tree_line_text d line.0 line.1) lines
 
 -- a leaf that names another node isn't said, nor one by a longest path that isn't alone
 abbrev pub is_line_said : (splits : ℕ) → Vertex Ending → Bool
@@ -176,8 +176,8 @@ is_said tree = nat_le (splits tree) SAID_SPLITS && every (is_line_said (splits t
 -- WHAT IS SAID
 
 -- up to the bound
-abbrev pub opening : Document → List ℕ
-opening d = codes "Every order takes " ++ decimal d.bound ++ codes " or more"
+abbrev pub opening_words : Document → List ℕ
+opening_words d = codes "Every order takes " ++ decimal d.bound ++ codes " or more"
 
 -- how many splits its tree has
 abbrev pub splits_words : (count : ℕ) → List ℕ
@@ -195,21 +195,21 @@ abbrev pub colon : (count : ℕ) → List ℕ
 colon count = (if count == 0 then [] else splits_words count) ++ codes ":\n"
 
 -- leaves by facts are said after them
-abbrev pub facts_text : Document → List ℕ
-facts_text d =
+abbrev pub fact_reasons_text : Document → List ℕ
+fact_reasons_text d =
     if has_factual d.tree then facts_from d (standing_first (problem_of d)) 1 (facts_of d) ++ faster_words d.bound else []
 
 abbrev pub leaves_text : Document → List ℕ
-leaves_text d = facts_text d ++ lines_text d (tree_placed [] d.tree)
+leaves_text d = fact_reasons_text d ++ lines_text d (tree_placed [] d.tree)
 
 -- a tree that isn't said is counted
 abbrev pub tree_text : Document → List ℕ
 tree_text d = if is_said d.tree then colon (splits d.tree) ++ leaves_text d else counts_text d
 
-abbrev pub last_line : (time bound : ℕ) → List ℕ
-last_line time bound =
+abbrev pub closing_line : (time bound : ℕ) → List ℕ
+closing_line time bound =
     if time == bound then codes "So the order of " ++ decimal time ++ codes " is best.\n"
     else codes "The order found takes " ++ decimal time ++ codes ".\n"
 
 abbrev pub reasons_text : Document → List ℕ
-reasons_text d = opening d ++ tree_text d ++ last_line d.time d.bound
+reasons_text d = opening_words d ++ tree_text d ++ closing_line d.time d.bound

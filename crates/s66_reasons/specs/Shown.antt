@@ -24,8 +24,8 @@ end_by (Load kind) rows = last_number rows
 end_by Parcels rows = least (λ (r : Reason). r.number) rows
 
 -- no legal order that begins so takes less than a number, which reaches the bound
-abbrev pub IsReached : Problem → List ℕ → (bound number : ℕ) → Type 0
-IsReached b at bound number = (bound ≤ number) × ((rest : List ℕ) → IsLegal b.block (at ++ rest) → number ≤ total_of b (at ++ rest))
+abbrev pub IsReachedAfter : Problem → List ℕ → (bound number : ℕ) → Type 0
+IsReachedAfter b at bound number = (bound ≤ number) × ((rest : List ℕ) → IsLegal b.block (at ++ rest) → number ≤ total_of b (at ++ rest))
 
 -- the leaf of this document at this prefix
 abbrev pub IsLeafAt : Document → List ℕ → Ending → Type 0

@@ -6,7 +6,7 @@ ghost use Rattle.s66_model.specs.{Load, Alone, Parted, NoMore, Unsplit, Bounding
 ghost use Rattle.s66_moments.specs.{second_by_lines};
 ghost use Rattle.s66_cert.specs.{one_load, three_multiplies};
 ghost use Rattle.s66_checker.specs.{before_their_writers, multiplies_at_once, three_adds};
-ghost use Rattle.s66_reasons.specs.{shifts_in_turn, by_parcels, by_unit, by_words, pairs_of, facts_text, reasons_text};
+ghost use Rattle.s66_reasons.specs.{shifts_in_turn, by_parcels, by_unit, by_words, pairs_of, fact_reasons_text, reasons_text};
 
 /// Which fact lines together put a number before another, and how they are named.
 #[tactic(auto, unfolding(s66_isa::specs::Table::row, s66_isa::specs::Profiles::profile_of, s66_model::specs::Dependence::conflict, crate::specs::Words::digits))]
@@ -31,7 +31,7 @@ pub fn above_examples()
 /// What is said of a supposition, and that the number of its last line stands for what it shows, and no line within it for anything.
 #[tactic(auto, unfolding(s66_isa::specs::Table::row, s66_isa::specs::Profiles::profile_of, s66_model::specs::Dependence::conflict, crate::specs::Words::digits))]
 pub fn supposition_examples()
-    ensures said { facts_text (three_adds second_by_lines) ≡
+    ensures said { fact_reasons_text (three_adds second_by_lines) ≡
         codes "  1. If 1 FX1 X2+X3 stood before 2 FX4 X2+X5 in a faster order:\n" ++
         codes "    2. 3 FX6 X2+X7 stands before 2 FX4 X2+X5 in a faster order: 2 has the Add unit until 10 or later; behind it 3 could issue then, and from there to the end it is 5 or more: 15\n" ++
         codes "    3. 1 FX1 X2+X3 stands before 3 FX6 X2+X7 in a faster order: 3 has the Add unit until 5 or later; behind it 1 could issue then, and from there to the end it is 10 or more: 15\n" ++

@@ -6,7 +6,7 @@ ghost use Rattle.s66_moments.specs.{IsNumber, is_turned, FactStep, are_steps_tak
 ghost use Rattle.s66_moments.specs.declared.fact_line.FactStep.TheVariants.{Refuted};
 ghost use Rattle.s66_cert.specs.{Document, IsDocument};
 ghost use Rattle.s66_checker.specs.{Yes, AreTaken, known_of, problem_of, verdict};
-ghost use Rattle.s66_reasons.specs.{leaf_rows, end_by, HasNoneSooner, HoldsIn, IsLeafAt, IsLoadShown, IsPathShown, IsReached, IsRefutedIn};
+ghost use Rattle.s66_reasons.specs.{leaf_rows, end_by, HasNoneSooner, HoldsIn, IsLeafAt, IsLoadShown, IsPathShown, IsReachedAfter, IsRefutedIn};
 
 /// If the verdict on a document is yes, the rows of each leaf of its tree reach the bound. If it is a chain, all units of a kind, all
 /// parcels or a whole order, no legal order that begins with the leaf's prefix takes less than they say. By facts they say what holds in
@@ -17,7 +17,7 @@ ghost use Rattle.s66_reasons.specs.{leaf_rows, end_by, HasNoneSooner, HoldsIn, I
 pub fn reasons_law()
     ensures bounding { (limit : ℕ) (d : Document) (time bound : ℕ) (at : List ℕ) (leaf : Leaf) →
         IsDocument limit d → verdict d ≡ Yes time bound → IsLeafAt d at (Bounding leaf) →
-        IsReached (problem_of d) at bound (end_by leaf (leaf_rows d at (Bounding leaf))) }
+        IsReachedAfter (problem_of d) at bound (end_by leaf (leaf_rows d at (Bounding leaf))) }
     ensures next { (limit : ℕ) (d : Document) (time bound n : ℕ) → IsDocument limit d → verdict d ≡ Yes time bound →
         d.tree ≡ Alone (Factual (Next n)) → IsPathShown d bound n }
     ensures supposed { (d : Document) (front : List FactStep) → are_steps_taken (problem_of d) d.bound

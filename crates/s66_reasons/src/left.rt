@@ -2,7 +2,7 @@
 
 ghost use Rattle.std.specs.Prelude.{◌≡◌, None, Some};
 ghost use Rattle.s66_moments.specs.declared.fact_line.FactStep.TheVariants.{Fact};
-ghost use Rattle.s66_reasons.specs.{keeps_apart, load_left, pair_left, passes, to_show_after, with_load};
+ghost use Rattle.s66_reasons.specs.{keeps_apart, load_left, pair_left, is_some_passing, to_show_after, with_load};
 
 use s66_facts::is_same_moment;
 use s66_moments::{FactLine, FactStep, LoadLine, Moment};
@@ -57,7 +57,7 @@ pub(crate) fn leaves_apart(
     to: &Moment,
     wait: u32,
 ) -> bool
-    ensures { result ≡ passes (keeps_apart from.now to.now wait) (load_left to_show step.now) }
+    ensures { result ≡ is_some_passing (keeps_apart from.now to.now wait) (load_left to_show step.now) }
 {
     match step {
         FactStep::Fact(FactLine::Load(load)) => {

@@ -35,7 +35,7 @@ impl<'a> KnownPaths<'a> {
     ghost use Rattle.s66_facts.specs.{before_in};
     ghost use Rattle.s66_cert.specs.{document_of};
     ghost use Rattle.s66_checker.specs.{known_of, problem_of};
-    ghost use Rattle.s66_reasons.specs.{pair_by, pair_from, pairs_of, passes, puts_before, second_of, up_to};
+    ghost use Rattle.s66_reasons.specs.{pair_by, pair_from, pairs_of, is_some_passing, puts_before, second_of_pair, up_to};
 
     /// Whether m is n, or n depends on it.
     fn depends(&self, m: u8, n: u8) -> bool
@@ -46,7 +46,7 @@ impl<'a> KnownPaths<'a> {
 
     /// Whether m stands before n by dependence, a pair that is there, and then what is known.
     fn puts_before(&self, known: &Facts, m: u8, n: u8, pair: Option<(u8, u8)>) -> bool
-        ensures { result ≡ passes (puts_before (document_of self.now) (before_in known.now.marks) m n) pair }
+        ensures { result ≡ is_some_passing (puts_before (document_of self.now) (before_in known.now.marks) m n) pair }
     {
         match pair {
             None => false,
@@ -102,7 +102,7 @@ impl<'a> KnownPaths<'a> {
 
     /// The second number of the pair that the line of this number leaves known.
     fn second_of(&self, number: usize) -> u8
-        ensures { result ≡ second_of (document_of self.now) number }
+        ensures { result ≡ second_of_pair (document_of self.now) number }
     {
         let lines = fact_lines(self.document);
         let mut before = number.saturating_sub(1);

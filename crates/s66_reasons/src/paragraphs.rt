@@ -5,7 +5,7 @@ ghost use Rattle.s66_isa.specs.{Among};
 ghost use Rattle.s66_model.specs.{vertex_of};
 ghost use Rattle.s66_cert.specs.{has_factual, is_factual, tree_placed, document_of};
 ghost use Rattle.s66_checker.specs.{problem_of, is_beginning};
-ghost use Rattle.s66_reasons.specs.{if_words, line_text, lines_text, then_words, IsGranted, IsRight, vertex_text};
+ghost use Rattle.s66_reasons.specs.{if_words, tree_line_text, lines_text, then_words, IsGranted, IsRight, vertex_text};
 
 use crate::known_paths::KnownPaths;
 use crate::leaf::push_leaf;
@@ -77,7 +77,7 @@ fn push_line(
     requires known { IfSome known (λ k. k.now ≡ document.now) }
     requires factual { IfNone known (has_factual (document_of document.now).tree ≡ false) }
     ensures text { OnOk result (out.new.items ≡ out.old.items ++
-        line_text (document_of document.now) numbers.now (vertex_of line.entry)) }
+        tree_line_text (document_of document.now) numbers.now (vertex_of line.entry)) }
     ensures problem { prefix.new.problem ≡ prefix.old.problem }
 {
     if is_split(&line) {

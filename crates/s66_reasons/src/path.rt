@@ -126,7 +126,7 @@ impl<'a> KnownPaths<'a> {
     ghost use Rattle.s66_moments.specs.{At, Issue, IsNumber};
     ghost use Rattle.s66_cert.specs.{document_of};
     ghost use Rattle.s66_checker.specs.{problem_of};
-    ghost use Rattle.s66_reasons.specs.{at_end_words, by_words, hop_rows, hops_from, hops_of, later_words, load_row, pairs_of, path_rows, table_rows, IsNumberOf, row_text, rows_text};
+    ghost use Rattle.s66_reasons.specs.{at_end_words, by_words, hop_rows, hops_from, hops_of, later_words, longest_load_row, pairs_of, path_rows, table_rows, IsNumberOf, row_text, rows_text};
 
     /// What n waits for of m, a stage of which comes before a stage of n.
     fn push_later_words(
@@ -229,7 +229,7 @@ impl<'a> KnownPaths<'a> {
         hop: &Hop,
     ) -> Result<(), AllocError>
         ensures { OnOk result (out.new.items ≡ out.old.items ++
-            row_text (load_row (document_of self.now) number from.now hop.now)) }
+            row_text (longest_load_row (document_of self.now) number from.now hop.now)) }
     {
         push_number(out, number)?;
         push_reached(out, &hop.to)?;

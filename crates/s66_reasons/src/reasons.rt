@@ -7,7 +7,7 @@ ghost use Rattle.s66_model.specs.{splits};
 ghost use Rattle.s66_moments.specs.{standing_first};
 ghost use Rattle.s66_cert.specs.{tree_placed, document_of};
 ghost use Rattle.s66_checker.specs.{Yes, facts_of, problem_of, verdict};
-ghost use Rattle.s66_reasons.specs.{and_facts, colon, counts_text, faster_words, last_line, leaves_text, lines_text, opening, reasons_text, splits_words, tree_text, facts_from, AreBegun, IsRight};
+ghost use Rattle.s66_reasons.specs.{and_facts, colon, counts_text, faster_words, closing_line, leaves_text, lines_text, opening_words, reasons_text, splits_words, tree_text, facts_from, AreBegun, IsRight};
 
 use crate::known_paths::KnownPaths;
 use crate::paragraphs::push_paragraphs;
@@ -23,7 +23,7 @@ use std::alloc::AllocError;
 
 /// Up to the bound.
 fn push_opening(out: &mut Vec<u8>, document: &Document) -> Result<(), AllocError>
-    ensures { OnOk result (out.new.items ≡ out.old.items ++ opening (document_of document.now)) }
+    ensures { OnOk result (out.new.items ≡ out.old.items ++ opening_words (document_of document.now)) }
 {
     push_field(out, b"Every order takes ", document.bound() as usize)?;
     out.extend_from_slice(b" or more")
@@ -140,7 +140,7 @@ fn push_tree(
 
 /// Whether an order of this time is best.
 fn push_last_line(out: &mut Vec<u8>, time: u32, bound: u32) -> Result<(), AllocError>
-    ensures { OnOk result (out.new.items ≡ out.old.items ++ last_line time bound) }
+    ensures { OnOk result (out.new.items ≡ out.old.items ++ closing_line time bound) }
 {
     if time == bound {
         push_between(out, b"So the order of ", time as usize, b" is best.\n")

@@ -7,7 +7,7 @@ use Rattle.crossbeam_deque.proofs.Lists.{at_set}
 use Rattle.s66_isa.specs.{weigh}
 use Rattle.s66_isa.proofs.Lists.{weigh-append}
 use Rattle.s66_model.specs.{TicketOf}
-use Rattle.s66_share.specs.{Hand, new_hand, spent_hand, one_part_less, joined_hands, HoldsNothing, Balanced, HasPut, HasTaken, HasPartsAtMost, IsSettled}
+use Rattle.s66_share.specs.{Hand, new_hand, spent_hand, one_part_less, joined_hands, HoldsNothing, Balanced, HasPut, HasTakenTickets, HasPartsAtMost, IsSettled}
 
 weigh-at : {X : Type 0} (f : X → ℕ) (xs : List X) (i : ℕ) (v w : X) → get_elem? xs i ≡ some v → weigh f (set xs i w) + f v ≡ weigh f xs + f w
 weigh-at f [] i v w e = absurd (some-ne-none v (sym e))
@@ -51,7 +51,7 @@ puts port v ts some_part items hands b at =
     let w : Hand = record v { put = v.put ++ ts } in
     (w, moved port v w items (items ++ ts) hands some_part refl (λ h. omega (arith, weigh-append h v.put ts, weigh-append h items ts)) b at, refl)
 
-pub takes : (port : ℕ) (v : Hand) → 1 ≤ v.parts → Takes Balanced port v 1 (HasTaken v)
+pub takes : (port : ℕ) (v : Hand) → 1 ≤ v.parts → Takes Balanced port v 1 (HasTakenTickets v)
 takes port v some_part ts items hands any few b at =
     let w : Hand = record v { taken = v.taken ++ ts } in
     (w, moved port v w (ts ++ items) items hands some_part refl (λ h. omega (arith, weigh-append h v.taken ts, weigh-append h ts items)) b at, refl)

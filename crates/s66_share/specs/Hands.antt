@@ -47,8 +47,8 @@ Balanced tickets hands =
 abbrev pub HasPut : Hand → List TicketOf → Hand → Type 0
 HasPut old tickets new = new ≡ record old { put = old.put ++ tickets }
 
-abbrev pub HasTaken : Hand → List TicketOf → Hand → Type 0
-HasTaken old tickets new = new ≡ record old { taken = old.taken ++ tickets }
+abbrev pub HasTakenTickets : Hand → List TicketOf → Hand → Type 0
+HasTakenTickets old tickets new = new ≡ record old { taken = old.taken ++ tickets }
 
 -- no hand has more than all parts
 abbrev pub HasPartsAtMost : Hand → List TicketOf → Type 0

@@ -9,5 +9,5 @@ pub use Locked.{AllAgree, IsOnce, Has, IsFree, IsLockHeld, keep_least, read_best
 pub use LockTokens.{found, book, IsIdle, IsResting, IsHolding, HaveEvery}
 pub use Hints.{HintSeatOf, IsLowest}
 pub use Lanes.{LaneId, LaneOf, PassOf, AreLeft}
-pub use Hands.{Hand, PARTS, opening_hand, new_hand, spent_hand, one_part_less, joined_hands, HoldsNothing, Balanced, HasPut, HasTaken, HasPartsAtMost, IsSettled}
+pub use Hands.{Hand, PARTS, opening_hand, new_hand, spent_hand, one_part_less, joined_hands, HoldsNothing, Balanced, HasPut, HasTakenTickets, HasPartsAtMost, IsSettled}
 pub use declared.limits.TheConstants.{CAPACITY_LIMIT, PASS_LIMIT}

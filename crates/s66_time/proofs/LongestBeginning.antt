@@ -7,7 +7,7 @@ use Rattle.s66_model.specs.{IsLegal, IsFront, IsBeginning, is_ready}
 use Rattle.s66_model.proofs.LegalOrders.{GoesOn-append, order-legal}
 use Rattle.s66_model.proofs.Beginnings.{front-beginning, beginning-front}
 use Rattle.s66_model.proofs.MeaningOfOrders.{legal-meaning}
-use Rattle.s66_time.specs.{IsOrdered, IsLongestBeginning}
+use Rattle.s66_time.specs.{IsKeptOrder, IsLongestBeginning}
 
 -- it has at most as many numbers as the block
 pub front-few : (block : List Instr) (prefix : List ℕ) → IsFront block prefix → length prefix ≤ length block
@@ -51,7 +51,7 @@ pub front-legal : (block : List Instr) (list : List ℕ) → IsFront block list 
 front-legal block list front all = order-legal block list (front-beginning block list front, all)
 
 -- what an order keeps of it
-pub legal-kept : (block instrs : List Instr) (list numbers : List ℕ) → instrs ≡ block → numbers ≡ list → length block ≤ BLOCK_LIMIT → IsLegal block list → IsOrdered instrs numbers
+pub legal-kept : (block instrs : List Instr) (list numbers : List ℕ) → instrs ≡ block → numbers ≡ list → length block ≤ BLOCK_LIMIT → IsLegal block list → IsKeptOrder instrs numbers
 legal-kept block instrs list numbers same alike few h =
     let legal : IsLegal instrs numbers = subst (λ is. IsLegal is numbers) (sym same) (subst (IsLegal block) (sym alike) h) in
     record { legal = legal; meaning = legal-meaning instrs numbers legal; few = omega (arith, ap length same) }

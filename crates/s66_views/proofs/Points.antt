@@ -8,7 +8,7 @@ use Rattle.s66_model.specs.{Point}
 use Rattle.s66_line.specs.{Block, bytes_of}
 use Rattle.s66_why.specs.{stretches_at, Work, left_from, taken_from, work}
 use Rattle.s66_why.proofs.Earlier.{earlier-more}
-use Rattle.s66_views.specs.{instruction_row, instruction_rows, row_head, row_marks, unit_row_of, unit_rows}
+use Rattle.s66_views.specs.{page_instruction_row, instruction_rows, row_head, row_marks, unit_row_of, unit_rows}
 
 -- ONE MORE
 
@@ -28,9 +28,9 @@ pub rows-more : (block : Block) (on : List ℕ) (ps : List Point) (i : ℕ) (p :
     new ≡ mid ++ (row_head text on p.number (length earlier + 1) ++ row_marks (stretches_at (reverse earlier) p) w) → new ≡ out ++ instruction_rows block on (reverse (take (i + 1) ps))
 rows-more block on ps i p text earlier w out mid new lt at is_text is_earlier is_work first more =
     let s : List Point = reverse (take i ps) in
-    let row : row_head text on p.number (length earlier + 1) ++ row_marks (stretches_at (reverse earlier) p) w ≡ instruction_row block on s p =
+    let row : row_head text on p.number (length earlier + 1) ++ row_marks (stretches_at (reverse earlier) p) w ≡ page_instruction_row block on s p =
     rw (is_text, is_earlier, is_work) (ap (λ n. row_head (bytes_of block p.number) on p.number (n + 1) ++ row_marks (stretches_at s p) (work p)) (sym (length-reverse (take i ps)))) in
-    more ∙ ap (λ zs. mid ++ zs) row ∙ ap (λ zs. zs ++ instruction_row block on s p) first ∙ append_assoc out (instruction_rows block on s) (instruction_row block on s p)
+    more ∙ ap (λ zs. mid ++ zs) row ∙ ap (λ zs. zs ++ page_instruction_row block on s p) first ∙ append_assoc out (instruction_rows block on s) (page_instruction_row block on s p)
     ∙ sym (ap (λ u. out ++ instruction_rows block on u) (earlier-more ps i p lt at))
 
 -- the row of one more unit

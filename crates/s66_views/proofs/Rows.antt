@@ -9,7 +9,7 @@ use Rattle.s66_time.specs.TimedOrder.{TimedOrder}
 use Rattle.s66_time.specs.{point_at}
 use Rattle.s66_time.proofs.Positions.{point-at, points-push}
 use Rattle.s66_why.specs.{Stretch, cycles_of, conflict_name, stretches_at, work, works}
-use Rattle.s66_views.specs.{Bar, all_kind_rows, all_rows, bar, bar_start, instruction_row, instruction_rows, on_path, order_head, order_text, register_rows, row_head, row_marks, row_words, shown_as}
+use Rattle.s66_views.specs.{Bar, all_kind_rows, all_rows, bar, bar_start, page_instruction_row, instruction_rows, on_path, order_head, page_order_text, page_register_rows, row_head, row_marks, row_words, shown_as}
 use Rattle.s66_views.specs.{span, stretch_bar, stretch_title, why_below, work_bar, work_title, Holds, place_of_bar, title_of_times}
 
 -- PARTS
@@ -70,21 +70,21 @@ module _ (block : Block) (on : List ℕ) (s : List Point) (p : Point) where
   abbrev bars : List ℕ
   bars = flat_map (shown_as Bar) waits
 
-  in-work : (part : List ℕ) → Holds (work_bar (work p)) part → Holds (instruction_row block on s p) part
+  in-work : (part : List ℕ) → Holds (work_bar (work p)) part → Holds (page_instruction_row block on s p) part
   unfolding row_marks
   in-work part is =
       holds-right part head (row_marks waits (work p))
       (holds-left part (bars ++ work_bar (work p)) (row_words waits (work p).done) (holds-right part bars (work_bar (work p)) is))
 
-  pub row-times : Holds (instruction_row block on s p) (title_of_times p)
+  pub row-times : Holds (page_instruction_row block on s p) (title_of_times p)
   unfolding work_bar work_title
   row-times = in-work (title_of_times p) (bar-title (kind_name (work p).kind) (work p).start (work p).latency (work_title (work p)))
 
-  pub row-work : Holds (instruction_row block on s p) (place_of_bar p.start (latency_of p.row))
+  pub row-work : Holds (page_instruction_row block on s p) (place_of_bar p.start (latency_of p.row))
   unfolding work_bar
   row-work = in-work (place_of_bar p.start (latency_of p.row)) (bar-place (kind_name (work p).kind) (work p).start (work p).latency (work_title (work p)))
 
-  pub row-waits : (x : Stretch) → Among x waits → Holds (instruction_row block on s p) (place_of_bar x.from (x.to - x.from))
+  pub row-waits : (x : Stretch) → Among x waits → Holds (page_instruction_row block on s p) (place_of_bar x.from (x.to - x.from))
   unfolding row_marks stretch_bar
   row-waits x among =
       let part : List ℕ = place_of_bar x.from (x.to - x.from) in
@@ -94,10 +94,10 @@ module _ (block : Block) (on : List ℕ) (s : List Point) (p : Point) where
 
 -- ROWS
 
-rows-hold : (block : Block) (on : List ℕ) (later : List Point) (p : Point) (s : List Point) → Holds (instruction_rows block on (later ++ p ∷ s)) (instruction_row block on s p)
-rows-hold block on [] p s = holds-right (instruction_row block on s p) (instruction_rows block on s) (instruction_row block on s p) (holds-all (instruction_row block on s p))
+rows-hold : (block : Block) (on : List ℕ) (later : List Point) (p : Point) (s : List Point) → Holds (instruction_rows block on (later ++ p ∷ s)) (page_instruction_row block on s p)
+rows-hold block on [] p s = holds-right (page_instruction_row block on s p) (instruction_rows block on s) (page_instruction_row block on s p) (holds-all (page_instruction_row block on s p))
 rows-hold block on (q ∷ later) p s =
-    holds-left (instruction_row block on s p) (instruction_rows block on (later ++ p ∷ s)) (instruction_row block on (later ++ p ∷ s) q) (rows-hold block on later p s)
+    holds-left (page_instruction_row block on s p) (instruction_rows block on (later ++ p ∷ s)) (page_instruction_row block on (later ++ p ∷ s) q) (rows-hold block on later p s)
 
 -- the points of more numbers come after those of the first ones
 later-points : (b : Problem) (s : List Point) (ns : List ℕ) → (later : List Point) × (points_after b s ns ≡ later ++ s)
@@ -108,23 +108,23 @@ later-points b s (n ∷ ns) =
     (more.0 ++ p ∷ [], more.1 ∙ sym (append_assoc more.0 (p ∷ []) s))
 
 pub order-rows : (block : Block) (title : List ℕ) (t : TimedOrder) (i : ℕ) → i < length t.numbers →
-    Holds (order_text block title t) (instruction_row block (on_path t) (points_of t.problem (take i t.numbers)) (point_at t i))
-unfolding order_text
+    Holds (page_order_text block title t) (page_instruction_row block (on_path t) (points_of t.problem (take i t.numbers)) (point_at t i))
+unfolding page_order_text
 order-rows block title t i lt =
     let b : Problem = t.problem in
     let ns = t.numbers in
     let s : List Point = points_of b (take i ns) in
     let p : Point = point_of b s (get_or ns i 0) in
-    let row : List ℕ = instruction_row block (on_path t) s (point_at t i) in
+    let row : List ℕ = page_instruction_row block (on_path t) s (point_at t i) in
     let front = order_head title (cycles_of t) in
     let rows : List ℕ = instruction_rows block (on_path t) (points_of b ns) in
-    let above = all_kind_rows (cycles_of t) (works t) ++ register_rows (reverse (points_of b ns)) in
+    let above = all_kind_rows (cycles_of t) (works t) ++ page_register_rows (reverse (points_of b ns)) in
     let more = later-points b (p ∷ s) (drop (i + 1) ns) in
     let split : points_of b ns ≡ more.0 ++ p ∷ s =
     ap (points_of b) (sym (take-append-drop (i + 1) ns)) ∙ points_after-append b [] (take (i + 1) ns) (drop (i + 1) ns)
     ∙ ap (λ (u : List Point). points_after b u (drop (i + 1) ns)) (points-push b ns i lt) ∙ more.1 in
     let held : Holds (instruction_rows block (on_path t) (more.0 ++ p ∷ s)) row =
-    subst (λ (q : Point). Holds (instruction_rows block (on_path t) (more.0 ++ p ∷ s)) (instruction_row block (on_path t) s q)) (sym (point-at t i lt)) (rows-hold block (on_path t) more.0 p s) in
+    subst (λ (q : Point). Holds (instruction_rows block (on_path t) (more.0 ++ p ∷ s)) (page_instruction_row block (on_path t) s q)) (sym (point-at t i lt)) (rows-hold block (on_path t) more.0 p s) in
     holds-left row (front ++ all_rows block t) (why_below block t)
     (holds-right row front (all_rows block t)
     (holds-right row above rows (subst (λ (u : List Point). Holds (instruction_rows block (on_path t) u) row) (sym split) held)))

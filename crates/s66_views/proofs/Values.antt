@@ -12,10 +12,10 @@ use Rattle.s66_line.specs.{Block, instrs_of, line_of, whole_text_of}
 use Rattle.s66_time.specs.TimedOrder.{TimedOrder}
 use Rattle.s66_why.specs.{Stretch, added, path, stretches, stretches_at}
 use Rattle.s66_views.specs.{block_data, change_members, profile_members, fillers_in, found_data, instruction_data, items_of, json_line, list_of, num, order_members, parcels_in, point_data, points}
-use Rattle.s66_views.specs.{points_items, register_data, result_data, result_register, row_of, wait_data, written_data, bound_text, changes_listed, profile_text, cause_text, conflict_text, head_text}
-use Rattle.s66_views.specs.{instruction_text, instructions_text, is_some, label_text, lines_text, list_text, listed, lists_text, lost_of, lost_text, memory_text, name_of_block, name_text, needs_text}
-use Rattle.s66_views.specs.{numbers_text, operands_text, path_text, place_text, point_text, points_text, register_text, registers_text, result_text, results_text, size_text, sort_text, source_text}
-use Rattle.s66_views.specs.{start_text, steps_text, string_text, timed_text, times_text, truth_text, unit_text, wait_start, wait_text, waits_text, work_text, write_text, writes_text}
+use Rattle.s66_views.specs.{points_items, register_data, result_data, result_register, row_of, wait_data, written_data, json_bound_text, changes_listed, profile_member_text, json_cause_text, conflict_text, head_text}
+use Rattle.s66_views.specs.{json_instruction_text, json_instructions_text, is_some, label_text, json_lines_text, list_text, json_listed, lists_text, lost_of, lost_text, memory_text, name_of_block, name_text, needs_text}
+use Rattle.s66_views.specs.{numbers_text, operands_text, path_text, place_text, point_text, points_text, json_register_text, registers_text, result_text, results_text, size_text, sort_text, source_text}
+use Rattle.s66_views.specs.{start_text, steps_text, string_text, timed_text, json_times_text, truth_text, unit_text, wait_start, wait_text, waits_text, work_text, write_text, writes_text}
 use Rattle.s66_views.specs.Pieces.{order_text}
 
 -- PIECES OF PIECES
@@ -29,7 +29,7 @@ three x m y n z r = two x m (y ++ (n ++ z)) r ∙ ap (λ t. x ++ (m ++ t)) (two 
 -- LISTS
 
 pub listed-items : {X : Type 0} (value : X → Data) (text : X → List ℕ) → ((x : X) → compact_text (value x) ≡ text x) → (later : Bool) (xs : List X) →
-    items_text later (items_of value xs) ≡ listed text later xs
+    items_text later (items_of value xs) ≡ json_listed text later xs
 listed-items value text same later [] = refl
 listed-items value text same later (x ∷ xs) = ap₂ (λ t u. comma_if later ++ (t ++ u)) (same x) (listed-items value text same true xs)
 
@@ -41,32 +41,32 @@ unfolding numbers_text
 numbers-text ns = list-text num decimal (λ n. refl) ns
 
 pub registers-text : (rs : List Reg) → compact_text (list_of register_data rs) ≡ registers_text rs
-unfolding registers_text register_text
-registers-text rs = list-text register_data register_text (λ r. refl) rs
+unfolding registers_text json_register_text
+registers-text rs = list-text register_data json_register_text (λ r. refl) rs
 
 pub writes-text : (ws : List Write) → compact_text (list_of result_register ws) ≡ writes_text ws
-unfolding writes_text register_text
+unfolding writes_text json_register_text
 writes-text ws = list-text result_register write_text (λ w. refl) ws
 
 -- AN ORDER
 
 pub wait-text : (x : Stretch) → compact_text (wait_data x) ≡ wait_text x
-unfolding wait_text wait_start cause_text conflict_text sort_text name_text escape_byte
+unfolding wait_text wait_start json_cause_text conflict_text sort_text name_text escape_byte
 wait-text x =
     let cause = x.holder.cause in
     let by = codes ",\"by\":" ++ (decimal x.holder.number ++ codes "}") in
     let whole : List ℕ → List ℕ =
     λ t. codes "{\"conflict\":" ++ (conflict_text x.conflict ++ (codes ",\"from\":" ++ (decimal x.from ++ (codes ",\"to\":" ++ (decimal x.to ++ t))))) in
     sym
-    (ap (λ t. codes "{\"conflict\":" ++ t) (three (conflict_text x.conflict) (codes ",\"from\":") (decimal x.from) (codes ",\"to\":") (decimal x.to) (cause_text cause ++ by))
+    (ap (λ t. codes "{\"conflict\":" ++ t) (three (conflict_text x.conflict) (codes ",\"from\":") (decimal x.from) (codes ",\"to\":") (decimal x.to) (json_cause_text cause ++ by))
     ∙ ap (λ t. whole (codes ",\"for\":" ++ t)) (two (sort_text cause) (codes ",\"name\":") (name_text cause) by))
 
 pub result-text : (d : ResultAt) → compact_text (result_data d) ≡ result_text d
-unfolding result_text register_text escape_byte
+unfolding result_text json_register_text escape_byte
 result-text d = refl
 
 pub point-text : (s : List Point) (p : Point) → compact_text (point_data s p) ≡ point_text p (stretches_at s p)
-unfolding point_text place_text times_text lists_text results_text waits_text escape_byte
+unfolding point_text place_text json_times_text lists_text results_text waits_text escape_byte
 point-text s p =
     let place : List ℕ → List ℕ =
     λ t. codes "{\"n\":" ++ (decimal p.number ++ (codes ",\"parcel\":" ++ (decimal p.parcel ++ (codes ",\"issue\":" ++ (decimal p.issue ++ t))))) in
@@ -76,7 +76,7 @@ point-text s p =
     let rest = lists_text p (stretches_at s p) in
     ap₂ (λ r w. place (times (lists r w))) (list-text result_data result_text result-text p.results) (list-text wait_data wait_text wait-text (stretches_at s p))
     ∙ sym
-    (ap (λ t. codes "{\"n\":" ++ t) (three (decimal p.number) (codes ",\"parcel\":") (decimal p.parcel) (codes ",\"issue\":") (decimal p.issue) (times_text p ++ rest))
+    (ap (λ t. codes "{\"n\":" ++ t) (three (decimal p.number) (codes ",\"parcel\":") (decimal p.parcel) (codes ",\"issue\":") (decimal p.issue) (json_times_text p ++ rest))
     ∙ ap (λ t. place (codes ",\"start\":" ++ t)) (three (decimal p.start) (codes ",\"done\":") (decimal (latest_result p)) (codes ",\"free\":") (decimal p.free) rest))
 
 pub points-items : (s : List Point) (more : Items) → items_text false (points_items s more) ≡ points_text s ++ items_text (is_some s) more
@@ -120,8 +120,8 @@ truth-text true = refl
 truth-text false = refl
 
 pub found-text : (t : TimedOrder) (bound splits : ℕ) →
-    compact_text (found_data t bound splits) ≡ timed_text t ++ (bound_text bound splits (bound == total_of t.problem t.numbers) ++ codes "}")
-unfolding bound_text escape_byte
+    compact_text (found_data t bound splits) ≡ timed_text t ++ (json_bound_text bound splits (bound == total_of t.problem t.numbers) ++ codes "}")
+unfolding json_bound_text escape_byte
 found-text t bound splits =
     let best = bound == total_of t.problem t.numbers in
     let whole : List ℕ → List ℕ = λ u. timed_text t ++ (codes ",\"bound\":" ++ (decimal bound ++ (codes ",\"best\":" ++ (u ++ (codes ",\"splits\":" ++ (decimal splits ++ codes "}")))))) in
@@ -131,8 +131,8 @@ found-text t bound splits =
 
 -- INSTRUCTIONS
 
-pub instruction-text : (p : Profile) (block : Block) (n : ℕ) → compact_text (instruction_data p block n) ≡ instruction_text p block n
-unfolding instruction_text source_text work_text operands_text needs_text string_text unit_text memory_text escape_byte
+pub instruction-text : (p : Profile) (block : Block) (n : ℕ) → compact_text (instruction_data p block n) ≡ json_instruction_text p block n
+unfolding json_instruction_text source_text work_text operands_text needs_text string_text unit_text memory_text escape_byte
 instruction-text p block n =
     let r : Row = row_of p block n in
     let after = needs (instrs_of block) n in
@@ -157,14 +157,14 @@ unfolding string_text
 change-members later [] = refl
 change-members later (c ∷ cs) = ap (λ t. comma_if later ++ (string_text (name_at c.place) ++ (codes ":" ++ (decimal c.value ++ t)))) (change-members true cs)
 
-profile-members : (cs : List Change) (more : Members) → members_text true (profile_members cs more) ≡ profile_text cs ++ members_text true more
+profile-members : (cs : List Change) (more : Members) → members_text true (profile_members cs more) ≡ profile_member_text cs ++ members_text true more
 unfolding escape_byte
 profile-members [] more = refl
 profile-members (c ∷ cs) more = ap (λ t. codes ",\"profile\":{" ++ (t ++ members_text true more)) (change-members false (c ∷ cs))
 
 pub block-text : (n : ℕ) (entry : List ℕ) (block : Block) (t : TimedOrder) (found : Data) →
     compact_text (block_data n entry block t found) ≡ start_text n entry block t ++ (compact_text found ++ codes "}")
-unfolding start_text head_text name_of_block lines_text size_text instructions_text label_text digits escape_byte
+unfolding start_text head_text name_of_block json_lines_text size_text json_instructions_text label_text digits escape_byte
 block-text n entry block t found =
     let rest = compact_text found ++ codes "}" in
     let ns = numbers (instrs_of block) in
@@ -173,28 +173,28 @@ block-text n entry block t found =
     let last = decimal (line_of block (length (instrs_of block))) in
     let count = decimal (length (instrs_of block)) in
     let parcels = decimal (parcels_in (instrs_of block)) in
-    let profile = profile_text (changes p) in
-    let all = list_text (instruction_text p block) ns in
+    let profile = profile_member_text (changes p) in
+    let all = list_text (json_instruction_text p block) ns in
     let name : List ℕ → List ℕ =
     λ u. codes "{\"schema\":1,\"block\":" ++ (decimal n ++ (codes ",\"label\":" ++ (label_text block.label ++ (codes ",\"entry\":" ++ (label_text entry ++ u))))) in
     let lines : List ℕ → List ℕ = λ u. codes ",\"line\":" ++ (first ++ (codes ",\"last_line\":" ++ (last ++ u))) in
     let size : List ℕ → List ℕ = λ u. codes ",\"count\":" ++ (count ++ (codes ",\"parcels\":" ++ (parcels ++ u))) in
     let orders : List ℕ → List ℕ → List ℕ = λ a w. codes ",\"instructions\":" ++ (a ++ (codes ",\"written\":" ++ (w ++ (codes ",\"found\":" ++ rest)))) in
     let ending = codes ",\"written\":" ++ (timed_text t ++ codes "},\"found\":") in
-    let following = instructions_text p block ++ ending in
+    let following = json_instructions_text p block ++ ending in
     let more : Members =
     member (codes "instructions") (list_of (instruction_data p block) ns) (member (codes "written") (written_data t) (member (codes "found") found no_members)) in
     ap (λ u. name (lines (size u))) (profile-members (changes p) more)
-    ∙ ap₂ (λ a w. name (lines (size (profile ++ orders a w)))) (list-text (instruction_data p block) (instruction_text p block) (instruction-text p block) ns) (written-text t)
+    ∙ ap₂ (λ a w. name (lines (size (profile ++ orders a w)))) (list-text (instruction_data p block) (json_instruction_text p block) (instruction-text p block) ns) (written-text t)
     ∙ ap (λ w. name (lines (size (profile ++ (codes ",\"instructions\":" ++ (all ++ (codes ",\"written\":" ++ w))))))) (append_assoc (timed_text t) (codes "}") (codes ",\"found\":" ++ rest))
     ∙ sym
     (append_assoc (head_text n entry p block) following rest
-    ∙ two (name_of_block n block.label entry) (lines_text block) (size_text block ++ profile) (following ++ rest)
-    ∙ ap (λ u. name_of_block n block.label entry ++ (lines_text block ++ u)) (append_assoc (size_text block) profile (following ++ rest))
-    ∙ ap (λ u. codes "{\"schema\":1,\"block\":" ++ u) (three (decimal n) (codes ",\"label\":") (label_text block.label) (codes ",\"entry\":") (label_text entry) (lines_text block ++ (size_text block ++ (profile ++ (following ++ rest)))))
+    ∙ two (name_of_block n block.label entry) (json_lines_text block) (size_text block ++ profile) (following ++ rest)
+    ∙ ap (λ u. name_of_block n block.label entry ++ (json_lines_text block ++ u)) (append_assoc (size_text block) profile (following ++ rest))
+    ∙ ap (λ u. codes "{\"schema\":1,\"block\":" ++ u) (three (decimal n) (codes ",\"label\":") (label_text block.label) (codes ",\"entry\":") (label_text entry) (json_lines_text block ++ (size_text block ++ (profile ++ (following ++ rest)))))
     ∙ ap (λ u. name (codes ",\"line\":" ++ u)) (two first (codes ",\"last_line\":") last (size_text block ++ (profile ++ (following ++ rest))))
     ∙ ap (λ u. name (lines (codes ",\"count\":" ++ u))) (two count (codes ",\"parcels\":") parcels (profile ++ (following ++ rest)))
-    ∙ ap (λ u. name (lines (size (profile ++ u)))) (append_assoc (instructions_text p block) ending rest)
+    ∙ ap (λ u. name (lines (size (profile ++ u)))) (append_assoc (json_instructions_text p block) ending rest)
     ∙ ap (λ u. name (lines (size (profile ++ (codes ",\"instructions\":" ++ (all ++ (codes ",\"written\":" ++ u))))))) (append_assoc (timed_text t) (codes "},\"found\":") rest))
 
 -- LINES
@@ -203,10 +203,10 @@ pub written-line : (n : ℕ) (entry : List ℕ) (block : Block) (t : TimedOrder)
 written-line n entry block t = ap (λ u. u ++ codes "\n") (block-text n entry block t null) ∙ append_assoc (start_text n entry block t) (codes "null}") (codes "\n")
 
 pub found-line : (n : ℕ) (entry : List ℕ) (block : Block) (t f : TimedOrder) (bound splits : ℕ) →
-    json_line n entry block t (found_data f bound splits) ≡ start_text n entry block t ++ (timed_text f ++ (bound_text bound splits (bound == total_of f.problem f.numbers) ++ codes "}}\n"))
+    json_line n entry block t (found_data f bound splits) ≡ start_text n entry block t ++ (timed_text f ++ (json_bound_text bound splits (bound == total_of f.problem f.numbers) ++ codes "}}\n"))
 found-line n entry block t f bound splits =
     let start = start_text n entry block t in
     let found = compact_text (found_data f bound splits) in
-    let bounds = bound_text bound splits (bound == total_of f.problem f.numbers) in
+    let bounds = json_bound_text bound splits (bound == total_of f.problem f.numbers) in
     ap (λ u. u ++ codes "\n") (block-text n entry block t (found_data f bound splits)) ∙ append_assoc start (found ++ codes "}") (codes "\n")
     ∙ ap (λ u. start ++ u) (append_assoc found (codes "}") (codes "\n") ∙ ap (λ u. u ++ codes "}\n") (found-text f bound splits) ∙ two (timed_text f) bounds (codes "}") (codes "}\n"))

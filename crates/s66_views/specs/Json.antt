@@ -39,23 +39,23 @@ text_data text = string (characters text)
 -- REGISTERS, UNITS, MEMORY
 
 -- the letter of its bank, and its digit
-abbrev pub register_name : Reg → List ℕ
-register_name r = bank_name r.bank ++ (48 + r.digit) ∷ []
+abbrev pub json_register_name : Reg → List ℕ
+json_register_name r = bank_name r.bank ++ (48 + r.digit) ∷ []
 
 abbrev pub register_data : Reg → Data
-register_data r = string (register_name r)
+register_data r = string (json_register_name r)
 
-abbrev pub unit_name : Kind → List ℕ
-unit_name Boolean = codes "boolean"
-unit_name Shift = codes "shift"
-unit_name Add = codes "add"
-unit_name LongAdd = codes "longadd"
-unit_name Multiply = codes "multiply"
-unit_name Divide = codes "divide"
-unit_name Increment = codes "increment"
+abbrev pub json_unit_name : Kind → List ℕ
+json_unit_name Boolean = codes "boolean"
+json_unit_name Shift = codes "shift"
+json_unit_name Add = codes "add"
+json_unit_name LongAdd = codes "longadd"
+json_unit_name Multiply = codes "multiply"
+json_unit_name Divide = codes "divide"
+json_unit_name Increment = codes "increment"
 
 abbrev pub unit_data : Kind → Data
-unit_data kind = string (unit_name kind)
+unit_data kind = string (json_unit_name kind)
 
 abbrev pub memory_data : Memory → Data
 memory_data memory.None = null

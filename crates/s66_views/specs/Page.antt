@@ -88,12 +88,12 @@ row_words xs done = codes "<text x='" ++ decimal done ++ codes "em' y='12' dx='2
 unfoldable pub row_marks : List Stretch → Work → List ℕ
 row_marks xs w = flat_map (shown_as Bar) xs ++ work_bar w ++ row_words xs w.done
 
-abbrev pub instruction_row : Block → (on_path : List ℕ) → List Point → Point → List ℕ
-instruction_row block on_path s p = row_head (bytes_of block p.number) on_path p.number (length s + 1) ++ row_marks (stretches_at s p) (work p)
+abbrev pub page_instruction_row : Block → (on_path : List ℕ) → List Point → Point → List ℕ
+page_instruction_row block on_path s p = row_head (bytes_of block p.number) on_path p.number (length s + 1) ++ row_marks (stretches_at s p) (work p)
 
 abbrev pub instruction_rows : Block → (on_path : List ℕ) → List Point → List ℕ
 instruction_rows block on_path [] = []
-instruction_rows block on_path (p ∷ s) = instruction_rows block on_path s ++ instruction_row block on_path s p
+instruction_rows block on_path (p ∷ s) = instruction_rows block on_path s ++ page_instruction_row block on_path s p
 
 -- ROWS OF UNITS
 
@@ -109,8 +109,8 @@ unfoldable pub unit_bars : Work → List ℕ
 unit_bars w = numbered_bar (codes "taken") w.issue (w.free - w.issue) w.number ++ numbered_bar (kind_name w.kind) w.start w.hold w.number ++ number_at w.start w.number
 
 -- of the time of the order, in per cent, rounded down; every order takes some time
-abbrev pub share : (cycles total : ℕ) → ℕ
-share cycles total = if total == 0 then 0 else 100 * cycles / total
+abbrev pub percentage_of : (cycles total : ℕ) → ℕ
+percentage_of cycles total = if total == 0 then 0 else 100 * cycles / total
 
 abbrev pub taken : List Work → ℕ
 taken ws = weigh (λ (w : Work). w.free - w.issue) ws
@@ -121,16 +121,16 @@ worked ws = weigh (λ (w : Work). w.hold) ws
 unfoldable pub unit_shares : (taken works : ℕ) → List ℕ
 unit_shares taken works = codes " TAKEN " ++ decimal taken ++ codes " % WORKS " ++ decimal works ++ codes " %<td><svg>"
 
-unfoldable pub unit_head : (name : List ℕ) (taken works : ℕ) → List ℕ
-unit_head name taken works = codes "<tr class='unit'><th>     " ++ name ++ unit_shares taken works
+unfoldable pub page_unit_head : (name : List ℕ) (taken works : ℕ) → List ℕ
+page_unit_head name taken works = codes "<tr class='unit'><th>     " ++ name ++ unit_shares taken works
 
-unfoldable pub unit_row : Kind → (total : ℕ) → List Work → List ℕ
-unit_row kind total ws = unit_head (kind_name kind) (share (taken ws) total) (share (worked ws) total) ++ flat_map unit_bars ws ++ codes "</svg>\n"
+unfoldable pub page_unit_row : Kind → (total : ℕ) → List Work → List ℕ
+page_unit_row kind total ws = page_unit_head (kind_name kind) (percentage_of (taken ws) total) (percentage_of (worked ws) total) ++ flat_map unit_bars ws ++ codes "</svg>\n"
 
 -- if it takes any
 abbrev pub unit_row_of : Kind → (total : ℕ) → List Work → List ℕ
 unit_row_of kind total [] = []
-unit_row_of kind total (w ∷ ws) = unit_row kind total (w ∷ ws)
+unit_row_of kind total (w ∷ ws) = page_unit_row kind total (w ∷ ws)
 
 -- of as many units as the first number at most, one after the other
 abbrev pub unit_rows : (most : ℕ) → Kind → (total : ℕ) → List Work → List ℕ
@@ -138,14 +138,14 @@ unit_rows zero kind total ws = []
 unit_rows (suc most) kind total ws = unit_row_of kind total (taken_from 0 ws) ++ unit_rows most kind total (left_from 0 ws)
 
 -- of the units of a kind
-unfoldable pub kind_rows : (total : ℕ) → List Work → Kind → List ℕ
-kind_rows total ws kind = unit_rows (length ws) kind total (works_of_kind kind ws)
+unfoldable pub page_kind_rows : (total : ℕ) → List Work → Kind → List ℕ
+page_kind_rows total ws kind = unit_rows (length ws) kind total (works_of_kind kind ws)
 
 -- of all units
 unfoldable pub all_kind_rows : (total : ℕ) → List Work → List ℕ
 all_kind_rows total ws =
-    kind_rows total ws Boolean ++ kind_rows total ws Shift ++ kind_rows total ws Add ++ kind_rows total ws LongAdd ++ kind_rows total ws Multiply
-    ++ kind_rows total ws Divide ++ kind_rows total ws Increment
+    page_kind_rows total ws Boolean ++ page_kind_rows total ws Shift ++ page_kind_rows total ws Add ++ page_kind_rows total ws LongAdd ++ page_kind_rows total ws Multiply
+    ++ page_kind_rows total ws Divide ++ page_kind_rows total ws Increment
 
 -- ROWS OF REGISTERS
 
@@ -153,20 +153,20 @@ all_kind_rows total ws =
 unfoldable pub register_bar : Reservation → List ℕ
 register_bar x = numbered_bar (codes "taken") x.from (x.until - x.from) x.number ++ number_at x.from x.number
 
-unfoldable pub register_head : Reg → List ℕ
-register_head r = codes "<tr class='register'><th>     " ++ register_name r ++ codes "<td><svg>"
+unfoldable pub page_register_head : Reg → List ℕ
+page_register_head r = codes "<tr class='register'><th>     " ++ register_name r ++ codes "<td><svg>"
 
-unfoldable pub register_row : Reg → List Reservation → List ℕ
-register_row r xs = register_head r ++ flat_map register_bar xs ++ codes "</svg>\n"
+unfoldable pub page_register_row : Reg → List Reservation → List ℕ
+page_register_row r xs = page_register_head r ++ flat_map register_bar xs ++ codes "</svg>\n"
 
 -- if it is reserved at all
 abbrev pub register_row_of : Reg → List Reservation → List ℕ
 register_row_of r [] = []
-register_row_of r (x ∷ xs) = register_row r (x ∷ xs)
+register_row_of r (x ∷ xs) = page_register_row r (x ∷ xs)
 
 -- of all registers that these write
-abbrev pub register_rows : List Point → List ℕ
-register_rows points =
+abbrev pub page_register_rows : List Point → List ℕ
+page_register_rows points =
     flat_map (λ index. register_row_of (register_at index) (register_reservations (register_at index) points)) (range_with_len 0 REGISTER_COUNT)
 
 -- ORDERS
@@ -198,7 +198,7 @@ on_path t = path (points_of t.problem t.numbers)
 -- of the units, of the registers, and of the instructions
 abbrev pub all_rows : Block → TimedOrder → List ℕ
 all_rows block t =
-    all_kind_rows (cycles_of t) (works t) ++ register_rows (reverse (points_of t.problem t.numbers))
+    all_kind_rows (cycles_of t) (works t) ++ page_register_rows (reverse (points_of t.problem t.numbers))
     ++ instruction_rows block (on_path t) (points_of t.problem t.numbers)
 
 -- what `why` says of it, without texts
@@ -206,13 +206,13 @@ unfoldable pub why_below : Block → TimedOrder → List ℕ
 why_below block t = codes "</table>\n<pre>" ++ why_text false block t ++ codes "</pre>\n"
 
 -- the rows of an order, and below them what `why` says of it
-unfoldable pub order_text : Block → (title : List ℕ) → TimedOrder → List ℕ
-order_text block title t = order_head title (cycles_of t) ++ all_rows block t ++ why_below block t
+unfoldable pub page_order_text : Block → (title : List ℕ) → TimedOrder → List ℕ
+page_order_text block title t = order_head title (cycles_of t) ++ all_rows block t ++ why_below block t
 
 -- BLOCKS
 
-unfoldable pub bound_text : (time bound : ℕ) → List ℕ
-bound_text time bound = if bound == time then codes "BEST" else (codes "AT LEAST " ++ decimal bound)
+unfoldable pub page_bound_text : (time bound : ℕ) → List ℕ
+page_bound_text time bound = if bound == time then codes "BEST" else (codes "AT LEAST " ++ decimal bound)
 
 -- of the n-th block, from 1, by its source order, the best order found, and what every order takes at least
 abbrev pub summary : ℕ → Block → (source best : TimedOrder) (bound : ℕ) → Summary
@@ -232,26 +232,26 @@ unfoldable pub block_title : (entry : List ℕ) → Summary → List ℕ
 block_title entry b = block_anchor b.number ++ escaped entry ++ block_place b.number b.line b.count
 
 unfoldable pub block_verdict : Summary → List ℕ
-block_verdict b = block_times b.source b.time ++ bound_text b.time b.bound ++ codes " <a href='#top'>&#8593;</a></h2>\n"
+block_verdict b = block_times b.source b.time ++ page_bound_text b.time b.bound ++ codes " <a href='#top'>&#8593;</a></h2>\n"
 
-unfoldable pub block_head : (entry : List ℕ) → Summary → List ℕ
-block_head entry b = block_title entry b ++ block_verdict b
+unfoldable pub page_block_head : (entry : List ℕ) → Summary → List ℕ
+page_block_head entry b = block_title entry b ++ block_verdict b
 
 -- the best order, if it takes less
 abbrev pub best_text : Block → (source best : TimedOrder) → List ℕ
-best_text block source best = if nat_lt (cycles_of best) (cycles_of source) then order_text block (codes "In the best order found") best else []
+best_text block source best = if nat_lt (cycles_of best) (cycles_of source) then page_order_text block (codes "In the best order found") best else []
 
 -- lines below each other
-unfoldable pub listing : List ℕ → List ℕ
-listing text = codes "<pre style='columns:auto'>" ++ escaped_lines text ++ codes "</pre>\n"
+unfoldable pub page_listing : List ℕ → List ℕ
+page_listing text = codes "<pre style='columns:auto'>" ++ escaped_lines text ++ codes "</pre>\n"
 
 -- why no order is faster, if that is said
 abbrev pub reasons_below : (reasons : List ℕ) → List ℕ
-reasons_below reasons = if length reasons == 0 then [] else listing reasons
+reasons_below reasons = if length reasons == 0 then [] else page_listing reasons
 
 unfoldable pub block_text : ℕ → (entry : List ℕ) → Block → (source best : TimedOrder) (bound : ℕ) (reasons : List ℕ) → List ℕ
 block_text n entry block source best bound reasons =
-    block_head entry (summary n block source best bound) ++ order_text block (codes "As it is written") source ++ best_text block source best
+    page_block_head entry (summary n block source best bound) ++ page_order_text block (codes "As it is written") source ++ best_text block source best
     ++ reasons_below reasons
 
 -- THE LIST OF BLOCKS
@@ -260,28 +260,28 @@ block_text n entry block source best bound reasons =
 unfoldable pub index_link : (number : ℕ) → List ℕ
 index_link number = codes "<tr><td><a href='#b" ++ decimal number ++ codes "'>" ++ decimal number ++ codes "</a>"
 
-unfoldable pub cell : ℕ → List ℕ
-cell n = codes "<td>" ++ decimal n
+unfoldable pub table_cell : ℕ → List ℕ
+table_cell n = codes "<td>" ++ decimal n
 
 unfoldable pub bound_cell : (time bound : ℕ) → List ℕ
-bound_cell time bound = codes "<td>" ++ bound_text time bound ++ codes "\n"
+bound_cell time bound = codes "<td>" ++ page_bound_text time bound ++ codes "\n"
 
 unfoldable pub entry_cell : (entry : List ℕ) → List ℕ
 entry_cell entry = codes "<td>" ++ escaped entry
 
 -- of the source order and of the best one, and how much less that takes
 unfoldable pub time_cells : (source time : ℕ) → List ℕ
-time_cells source time = cell source ++ cell time ++ cell (source - time)
+time_cells source time = table_cell source ++ table_cell time ++ table_cell (source - time)
 
 unfoldable pub index_row : (entry : List ℕ) → Summary → List ℕ
-index_row entry b = index_link b.number ++ entry_cell entry ++ cell b.line ++ cell b.count ++ time_cells b.source b.time ++ bound_cell b.time b.bound
+index_row entry b = index_link b.number ++ entry_cell entry ++ table_cell b.line ++ table_cell b.count ++ time_cells b.source b.time ++ bound_cell b.time b.bound
 
 unfoldable pub best_cell : (best : ℕ) → List ℕ
 best_cell best = codes "<td>BEST " ++ decimal best ++ codes "\n"
 
 -- below the rows: their instructions, their times, and how many of the orders are best
 unfoldable pub total_row : (count source time best : ℕ) → List ℕ
-total_row count source time best = codes "<tr><td>TOTAL<td><td>" ++ cell count ++ time_cells source time ++ best_cell best
+total_row count source time best = codes "<tr><td>TOTAL<td><td>" ++ table_cell count ++ time_cells source time ++ best_cell best
 
 abbrev pub is_best : Summary → Bool
 is_best b = b.bound == b.time
@@ -311,10 +311,10 @@ entry Row p n block f = index_entry p n block f
 entry Orders p n block f = block_entry p n block f
 
 -- of these blocks, before which n come
-abbrev pub entries : (ℕ → Block → FoundOrder → List ℕ) → ℕ → List Block → List FoundOrder → List ℕ
-entries entry n (b ∷ bs) (f ∷ fs) = entry (n + 1) b f ++ entries entry (n + 1) bs fs
-entries entry n (b ∷ bs) [] = []
-entries entry n [] fs = []
+abbrev pub page_entries : (ℕ → Block → FoundOrder → List ℕ) → ℕ → List Block → List FoundOrder → List ℕ
+page_entries entry n (b ∷ bs) (f ∷ fs) = entry (n + 1) b f ++ page_entries entry (n + 1) bs fs
+page_entries entry n (b ∷ bs) [] = []
+page_entries entry n [] fs = []
 
 abbrev pub summaries : Profile → ℕ → List Block → List FoundOrder → List Summary
 summaries p n (b ∷ bs) (f ∷ fs) = summary (n + 1) b (as_written p b) (as_found p b f) f.bound ∷ summaries p (n + 1) bs fs
@@ -336,8 +336,8 @@ page_head p n found = PAGE_START.now ++ page_title n found ++ PAGE_HEAD.now ++ p
 
 -- the list of these blocks, before which n come, and their total
 abbrev pub index : Profile → ℕ → List Block → List FoundOrder → List ℕ
-index p n blocks found = entries (entry Row p) n blocks found ++ total_of_all (summaries p n blocks found) ++ codes "</table>\n"
+index p n blocks found = page_entries (entry Row p) n blocks found ++ total_of_all (summaries p n blocks found) ++ codes "</table>\n"
 
 -- the list, and the blocks
 abbrev pub page_text : Profile → ℕ → List Block → List FoundOrder → List ℕ
-page_text p n blocks found = page_head p n found ++ index p n blocks found ++ entries (entry Orders p) n blocks found
+page_text p n blocks found = page_head p n found ++ index p n blocks found ++ page_entries (entry Orders p) n blocks found

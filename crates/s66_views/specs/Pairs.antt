@@ -11,7 +11,7 @@ use Rattle.s66_compare.specs.{ending_text, is_accepted, row_line, first_differen
 use Rattle.s66_compare.specs.{Reordered, Same}
 use Rattle.s66_compare.specs.declared.difference.Difference.{Difference}
 use Rattle.s66_views.specs.Escape.{escaped}
-use Rattle.s66_views.specs.Page.{as_written, block_anchor, order_text, profile_line}
+use Rattle.s66_views.specs.Page.{as_written, block_anchor, page_order_text, profile_line}
 use Rattle.s66_views.specs.declared.page.page.Part.{Part}
 use Rattle.s66_views.specs.declared.page.page.Part.TheVariants.{Orders, Row as Link}
 use Rattle.s66_views.specs.declared.page.pairs.Place.{Place}
@@ -23,16 +23,16 @@ abbrev pub in_order : Profile → Block → List ℕ → TimedOrder
 in_order p block order = record { problem = record { block = instrs_of block; profile = p }; numbers = order }
 
 abbrev pub in_old : Profile → Block → List ℕ
-in_old p old = order_text old (codes "In the old source") (as_written p old)
+in_old p old = page_order_text old (codes "In the old source") (as_written p old)
 
 abbrev pub in_new : Profile → Block → List ℕ
-in_new p new = order_text new (codes "In the new source") (as_written p new)
+in_new p new = page_order_text new (codes "In the new source") (as_written p new)
 
 -- of two blocks of which this is said: a new one that is the old one in a legal order is shown by the numbers of the old one's
 -- instructions, and one in the same order isn't shown again
 abbrev pub both_orders : Profile → (old new : Block) → BlockVerdict → (order : List ℕ) → List ℕ
-both_orders p old new Same order = order_text old (codes "In both sources") (as_written p old)
-both_orders p old new Reordered order = in_old p old ++ order_text old (codes "In the new source") (in_order p old order)
+both_orders p old new Same order = page_order_text old (codes "In both sources") (as_written p old)
+both_orders p old new Reordered order = in_old p old ++ page_order_text old (codes "In the new source") (in_order p old order)
 both_orders p old new (NotLegal number missing) order = in_old p old ++ in_new p new
 both_orders p old new (OtherNew line) order = in_old p old ++ in_new p new
 both_orders p old new (OtherOld line) order = in_old p old ++ in_new p new

@@ -15,8 +15,8 @@ use Rattle.s66_views.specs.Json.{conflict_data, fillers_in, label_data, memory_d
 unfoldable pub string_text : List ℕ → List ℕ
 string_text text = compact_text (text_data text)
 
-unfoldable pub register_text : Reg → List ℕ
-register_text r = compact_text (register_data r)
+unfoldable pub json_register_text : Reg → List ℕ
+json_register_text r = compact_text (register_data r)
 
 unfoldable pub unit_text : Kind → List ℕ
 unit_text kind = compact_text (unit_data kind)
@@ -39,21 +39,21 @@ label_text label = compact_text (label_data label)
 -- LISTS
 
 -- these after others or not, with the bracket that closes them
-abbrev pub listed : {X : Type 0} → (X → List ℕ) → Bool → List X → List ℕ
-listed text later [] = codes "]"
-listed text later (x ∷ xs) = comma_if later ++ (text x ++ listed text true xs)
+abbrev pub json_listed : {X : Type 0} → (X → List ℕ) → Bool → List X → List ℕ
+json_listed text later [] = codes "]"
+json_listed text later (x ∷ xs) = comma_if later ++ (text x ++ json_listed text true xs)
 
 abbrev pub list_text : {X : Type 0} → (X → List ℕ) → List X → List ℕ
-list_text text xs = codes "[" ++ listed text false xs
+list_text text xs = codes "[" ++ json_listed text false xs
 
 abbrev pub write_text : Write → List ℕ
-write_text w = register_text w.reg
+write_text w = json_register_text w.reg
 
 unfoldable pub numbers_text : List ℕ → List ℕ
 numbers_text ns = list_text decimal ns
 
 unfoldable pub registers_text : List Reg → List ℕ
-registers_text rs = list_text register_text rs
+registers_text rs = list_text json_register_text rs
 
 unfoldable pub writes_text : List Write → List ℕ
 writes_text ws = list_text write_text ws
@@ -63,11 +63,11 @@ writes_text ws = list_text write_text ws
 unfoldable pub wait_start : Stretch → List ℕ
 wait_start x = codes "{\"conflict\":" ++ (conflict_text x.conflict ++ (codes ",\"from\":" ++ (decimal x.from ++ (codes ",\"to\":" ++ decimal x.to))))
 
-unfoldable pub cause_text : Cause → List ℕ
-cause_text cause = codes ",\"for\":" ++ (sort_text cause ++ (codes ",\"name\":" ++ name_text cause))
+unfoldable pub json_cause_text : Cause → List ℕ
+json_cause_text cause = codes ",\"for\":" ++ (sort_text cause ++ (codes ",\"name\":" ++ name_text cause))
 
 unfoldable pub wait_text : Stretch → List ℕ
-wait_text x = wait_start x ++ (cause_text x.holder.cause ++ (codes ",\"by\":" ++ (decimal x.holder.number ++ codes "}")))
+wait_text x = wait_start x ++ (json_cause_text x.holder.cause ++ (codes ",\"by\":" ++ (decimal x.holder.number ++ codes "}")))
 
 unfoldable pub waits_text : List Stretch → List ℕ
 waits_text xs = list_text wait_text xs
@@ -75,7 +75,7 @@ waits_text xs = list_text wait_text xs
 -- AN ORDER
 
 unfoldable pub result_text : ResultAt → List ℕ
-result_text d = codes "{\"register\":" ++ (register_text d.reg ++ (codes ",\"done\":" ++ (decimal d.time ++ codes "}")))
+result_text d = codes "{\"register\":" ++ (json_register_text d.reg ++ (codes ",\"done\":" ++ (decimal d.time ++ codes "}")))
 
 unfoldable pub results_text : List ResultAt → List ℕ
 results_text ds = list_text result_text ds
@@ -83,15 +83,15 @@ results_text ds = list_text result_text ds
 unfoldable pub place_text : Point → List ℕ
 place_text p = codes "{\"n\":" ++ (decimal p.number ++ (codes ",\"parcel\":" ++ (decimal p.parcel ++ (codes ",\"issue\":" ++ decimal p.issue))))
 
-unfoldable pub times_text : Point → List ℕ
-times_text p = codes ",\"start\":" ++ (decimal p.start ++ (codes ",\"done\":" ++ (decimal (latest_result p) ++ (codes ",\"free\":" ++ decimal p.free))))
+unfoldable pub json_times_text : Point → List ℕ
+json_times_text p = codes ",\"start\":" ++ (decimal p.start ++ (codes ",\"done\":" ++ (decimal (latest_result p) ++ (codes ",\"free\":" ++ decimal p.free))))
 
 unfoldable pub lists_text : Point → List Stretch → List ℕ
 lists_text p waits = codes ",\"results\":" ++ (results_text p.results ++ (codes ",\"waits\":" ++ (waits_text waits ++ codes "}")))
 
 -- of an instruction, which waits so
 unfoldable pub point_text : Point → List Stretch → List ℕ
-point_text p waits = place_text p ++ (times_text p ++ lists_text p waits)
+point_text p waits = place_text p ++ (json_times_text p ++ lists_text p waits)
 
 abbrev pub is_some : List Point → Bool
 is_some [] = false
@@ -128,8 +128,8 @@ abbrev pub truth_text : Bool → List ℕ
 truth_text true = codes "true"
 truth_text false = codes "false"
 
-unfoldable pub bound_text : (bound splits : ℕ) → Bool → List ℕ
-bound_text bound splits best = codes ",\"bound\":" ++ (decimal bound ++ (codes ",\"best\":" ++ (truth_text best ++ (codes ",\"splits\":" ++ decimal splits))))
+unfoldable pub json_bound_text : (bound splits : ℕ) → Bool → List ℕ
+json_bound_text bound splits best = codes ",\"bound\":" ++ (decimal bound ++ (codes ",\"best\":" ++ (truth_text best ++ (codes ",\"splits\":" ++ decimal splits))))
 
 -- INSTRUCTIONS
 
@@ -145,12 +145,12 @@ operands_text r = codes ",\"reads\":" ++ (registers_text r.reads ++ (codes ",\"w
 unfoldable pub needs_text : Row → List ℕ → List ℕ
 needs_text r ns = codes ",\"memory\":" ++ (memory_text r.memory ++ (codes ",\"after\":" ++ (numbers_text ns ++ codes "}")))
 
-unfoldable pub instruction_text : Profile → Block → ℕ → List ℕ
-instruction_text p block n =
+unfoldable pub json_instruction_text : Profile → Block → ℕ → List ℕ
+json_instruction_text p block n =
     source_text block n ++ (work_text (row_of p block n) ++ (operands_text (row_of p block n) ++ needs_text (row_of p block n) (needs (instrs_of block) n)))
 
-unfoldable pub instructions_text : Profile → Block → List ℕ
-instructions_text p block = codes ",\"instructions\":" ++ list_text (instruction_text p block) (numbers (instrs_of block))
+unfoldable pub json_instructions_text : Profile → Block → List ℕ
+json_instructions_text p block = codes ",\"instructions\":" ++ list_text (json_instruction_text p block) (numbers (instrs_of block))
 
 -- A BLOCK
 
@@ -158,8 +158,8 @@ unfoldable pub name_of_block : ℕ → (label entry : List ℕ) → List ℕ
 name_of_block n label entry =
     codes "{\"schema\":1,\"block\":" ++ (decimal n ++ (codes ",\"label\":" ++ (label_text label ++ (codes ",\"entry\":" ++ label_text entry))))
 
-unfoldable pub lines_text : Block → List ℕ
-lines_text block = codes ",\"line\":" ++ (decimal (line_of block 1) ++ (codes ",\"last_line\":" ++ decimal (line_of block (length (instrs_of block)))))
+unfoldable pub json_lines_text : Block → List ℕ
+json_lines_text block = codes ",\"line\":" ++ (decimal (line_of block 1) ++ (codes ",\"last_line\":" ++ decimal (line_of block (length (instrs_of block)))))
 
 unfoldable pub size_text : Block → List ℕ
 size_text block = codes ",\"count\":" ++ (decimal (length (instrs_of block)) ++ (codes ",\"parcels\":" ++ decimal (parcels_in (instrs_of block))))
@@ -169,14 +169,14 @@ abbrev pub changes_listed : Bool → List Change → List ℕ
 changes_listed later [] = codes "}"
 changes_listed later (c ∷ cs) = comma_if later ++ (string_text (name_at c.place) ++ (codes ":" ++ (decimal c.value ++ changes_listed true cs)))
 
-abbrev pub profile_text : List Change → List ℕ
-profile_text [] = []
-profile_text (c ∷ cs) = codes ",\"profile\":{" ++ changes_listed false (c ∷ cs)
+abbrev pub profile_member_text : List Change → List ℕ
+profile_member_text [] = []
+profile_member_text (c ∷ cs) = codes ",\"profile\":{" ++ changes_listed false (c ∷ cs)
 
 unfoldable pub head_text : ℕ → (entry : List ℕ) → Profile → Block → List ℕ
-head_text n entry p block = name_of_block n block.label entry ++ (lines_text block ++ (size_text block ++ profile_text (changes p)))
+head_text n entry p block = name_of_block n block.label entry ++ (json_lines_text block ++ (size_text block ++ profile_member_text (changes p)))
 
 -- to where it is said what is found
 unfoldable pub start_text : ℕ → (entry : List ℕ) → Block → TimedOrder → List ℕ
 start_text n entry block t =
-    head_text n entry t.problem.profile block ++ (instructions_text t.problem.profile block ++ (codes ",\"written\":" ++ (timed_text t ++ codes "},\"found\":")))
+    head_text n entry t.problem.profile block ++ (json_instructions_text t.problem.profile block ++ (codes ",\"written\":" ++ (timed_text t ++ codes "},\"found\":")))

@@ -11,7 +11,7 @@ use Rattle.s66_model.proofs.PointTimes.{point_of-number}
 use Rattle.s66_time.specs.{InTurn}
 use Rattle.s66_time.proofs.Clocks.{in-turn}
 use Rattle.s66_why.specs.{Cause, Writes, Takes, References, Reads, Holder, Conflict, First, Second, Third, Stretch, lets_go, holder, nobody, soonest, first_holder, second_holder, third_holder}
-use Rattle.s66_why.specs.{or_else, slot, stretch, first_stretch, second_stretch, third_stretch, stretches_at, KeepsFromIssue, IsKeptBack, IsForbidden, AreFromOne}
+use Rattle.s66_why.specs.{holder_or_else, slot, stretch, first_stretch, second_stretch, third_stretch, stretches_at, KeepsFromIssue, IsKeptBack, IsForbidden, AreFromOne}
 use Rattle.s66_why.proofs.AmongParts.{among-flat, greatest-met, greatest-passes, tally-le}
 use Rattle.s66_why.proofs.Found.{ArePositive, NoneDone, found-or-none, or_else-first, or_else-second, soonest-is}
 
@@ -102,7 +102,7 @@ first-held b s p t is pl positive late =
     λ cause q keeps. (pl.slot, sym is, subst (λ k. CanIssue b s p.row k → ⊥) (sym sooner) no, subst (λ k. KeepsFromIssue b s p k cause q) (sym sooner) keeps) in
     let here : (g : Holder) → g ≡ first_holder s p → IsHeldBy b s p First (slot s p) (t + 1) g → IsHeldBy b s p First (slot s p) (t + 1) (first_holder s p) =
     λ g e held. subst (IsHeldBy b s p First (slot s p) (t + 1)) e held in
-    let named : first_holder s p ≡ or_else results unit = ap (λ k. or_else (soonest nobody k s regs) (holder (Takes p.row.kind) k s)) is in
+    let named : first_holder s p ≡ holder_or_else results unit = ap (λ k. holder_or_else (soonest nobody k s regs) (holder (Takes p.row.kind) k s)) is in
     elim (soonest-is (t + 1) s regs nobody refl positive) [
       | inr found ↦
           let f = found.found in
@@ -138,7 +138,7 @@ second-held b s p t is pl latest positive late =
     let whole : t + 1 ≡ max p.issue (max operands waits) = sym is ∙ pl.start in
     let here : (g : Holder) → g ≡ second_holder s p → IsHeldBy b s p Second p.issue (t + 1) g → IsHeldBy b s p Second p.issue (t + 1) (second_holder s p) =
     λ g e held. subst (IsHeldBy b s p Second p.issue (t + 1)) e held in
-    let named : second_holder s p ≡ or_else results reference = ap (λ k. or_else (soonest nobody k s regs) (holder memory k s)) is in
+    let named : second_holder s p ≡ holder_or_else results reference = ap (λ k. holder_or_else (soonest nobody k s regs) (holder memory k s)) is in
     elim (soonest-is (t + 1) s regs nobody refl positive) [
       | inr found ↦
           let f = found.found in

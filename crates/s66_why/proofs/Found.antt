@@ -4,7 +4,7 @@ use Rattle.std.proofs.lemmas.Bool.{and_from, and_left, and_right, cases_Bool, co
 use Rattle.s66_isa.specs.{Reg, Among}
 use Rattle.s66_isa.proofs.Lists.{cases_le}
 use Rattle.s66_model.specs.{Point}
-use Rattle.s66_why.specs.{Cause, Writes, Holder, lets_go, lower, lowest, holder, sooner, or_else, soonest}
+use Rattle.s66_why.specs.{Cause, Writes, Holder, lets_go, lower, lowest, holder, sooner, holder_or_else, soonest}
 
 abbrev pub ArePositive : List Point → Type 0
 ArePositive s = (q : Point) → Among q s → 1 ≤ q.number
@@ -69,10 +69,10 @@ sooner-some a b some =
           inr (cond-false (first && second) b a (and_right first second fails), least)
     ]
 
-pub or_else-first : (a b : Holder) → 1 ≤ a.number → or_else a b ≡ a
+pub or_else-first : (a b : Holder) → 1 ≤ a.number → holder_or_else a b ≡ a
 or_else-first a b some = cond-false (a.number == 0) b a (ne_eqb a.number 0 (λ e. omega arith))
 
-pub or_else-second : (a b : Holder) → a.number ≡ 0 → or_else a b ≡ b
+pub or_else-second : (a b : Holder) → a.number ≡ 0 → holder_or_else a b ≡ b
 or_else-second a b none = cond-true (a.number == 0) b a (eq-eqb a.number 0 none)
 
 -- OF REGISTERS

@@ -12,7 +12,7 @@ use Rattle.s66_model.proofs.Growth.{fits_at-ge, none-first}
 use Rattle.s66_model.proofs.PointTimes.{greatest-stays, hold-le-free, point_of-number, points_after-append}
 use Rattle.s66_model.proofs.WrittenOrders.{greatest-map}
 use Rattle.s66_why.specs.{Cause, Writes, Takes, References, Reads, Ends, Holder, Link, Held, InLine, Milestone, Step, Wait, Conflict, First, Second, Third, before, before_issue, before_start, decides}
-use Rattle.s66_why.specs.{first_holder, holder, is_held, lets_go, next_wait, second_holder, slot, steps, steps_from, third_holder, walk, AreFromOne, AddsUp, AreOnce, WaitGoesOn, IsPath, Leads}
+use Rattle.s66_why.specs.{first_holder, holder, is_held, lets_go, next_wait, second_holder, slot, steps, steps_from, third_holder, walk, AreFromOne, AddsUp, AreEachOnce, WaitGoesOn, IsPath, Leads}
 use Rattle.s66_why.specs.{LetsGoWith, made_at, unhindered}
 use Rattle.s66_why.proofs.Alike.{AreAlike, row-alike}
 use Rattle.s66_why.proofs.AmongParts.{greatest-met}
@@ -127,7 +127,7 @@ sound-of b s n latest positive apart =
 abbrev AreNew : List ℕ → List Point → Type 0
 AreNew ns s = (q : Point) → Among q s → has q.number ns ≡ false
 
-all-sound : (b : Problem) (ms ns : List ℕ) → AllSound b (points_of b ms) → ArePositive (points_of b ms) → AreNew ns (points_of b ms) → AreOnce ns → AreFromOne ns →
+all-sound : (b : Problem) (ms ns : List ℕ) → AllSound b (points_of b ms) → ArePositive (points_of b ms) → AreNew ns (points_of b ms) → AreEachOnce ns → AreFromOne ns →
     AllSound b (points_after b (points_of b ms) ns)
 all-sound b ms [] sound positive new once from = sound
 all-sound b ms (n ∷ ns) sound positive new once from =
@@ -540,7 +540,7 @@ adds-up b s p link t (x ∷ xs) (number, leads, inr (nothing, inr (q, e, line, a
 some-total : (b : Problem) (n : ℕ) (ns : List ℕ) → 1 ≤ total (points_of b (n ∷ ns))
 some-total b n ns = omega (arith, greatest-stays b end_of (point_of b [] n ∷ []) ns, hold-le-free b [] n)
 
-pub path-adds_up : (b : Problem) (ns : List ℕ) → 1 ≤ length ns → AreFromOne ns → AreOnce ns → AddsUp b (points_of b ns)
+pub path-adds_up : (b : Problem) (ns : List ℕ) → 1 ≤ length ns → AreFromOne ns → AreEachOnce ns → AddsUp b (points_of b ns)
 path-adds_up b [] some from once = absurd (omega (arith, some))
 path-adds_up b (n ∷ ns) some from once =
     let s : List Point = points_of b (n ∷ ns) in

@@ -34,19 +34,19 @@ letter a cycle =
 -- THE ROWS
 
 -- right in three places
-abbrev pub in_three : List ℕ → List ℕ
-in_three name = replicate (3 - length name) 32 ++ name
+abbrev pub name_in_three : List ℕ → List ℕ
+name_in_three name = replicate (3 - length name) 32 ++ name
 
 -- a name, a blank, and the letters of this many minor cycles
-abbrev pub row_text : List ℕ → Activity → ℕ → List ℕ
-row_text name a cycles = in_three name ++ codes " " ++ map (letter a) (range_with_len 0 cycles) ++ codes "\n"
+abbrev pub chart_row_text : List ℕ → Activity → ℕ → List ℕ
+chart_row_text name a cycles = name_in_three name ++ codes " " ++ map (letter a) (range_with_len 0 cycles) ++ codes "\n"
 
 abbrev pub cycles_of : TimedOrder → ℕ
 cycles_of t = total_of t.problem t.numbers
 
 -- the row of the instruction at a position, from 0
 abbrev pub instruction_row : TimedOrder → ℕ → List ℕ
-instruction_row t position = row_text (decimal (point_at t position).number) (activity (point_at t position)) (cycles_of t)
+instruction_row t position = chart_row_text (decimal (point_at t position).number) (activity (point_at t position)) (cycles_of t)
 
 -- a NO is between the instruction at a position and the next one
 abbrev pub has_filler : TimedOrder → ℕ → Bool
@@ -55,7 +55,7 @@ has_filler t position =
 
 -- the row of a NO after the instruction at a position
 abbrev pub no_row : TimedOrder → ℕ → List ℕ
-no_row t position = row_text (codes "NO") (filler_activity (point_at t position)) (cycles_of t)
+no_row t position = chart_row_text (codes "NO") (filler_activity (point_at t position)) (cycles_of t)
 
 -- that row, if there is one
 abbrev pub filler_row : TimedOrder → ℕ → List ℕ

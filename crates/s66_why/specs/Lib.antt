@@ -12,12 +12,12 @@ pub mod Sums
 pub mod TextChart
 pub mod Units
 pub mod Why
-pub use Chart.{activity, filler_activity, letter, row_text, cycles_of, instruction_row, has_filler, chart_text}
+pub use Chart.{activity, filler_activity, letter, chart_row_text, cycles_of, instruction_row, has_filler, chart_text}
 pub use Examples.{one_load_lines, packing_gap_lines}
 pub use Forbids.{KeepsFromIssue, IsKeptBack, IsForbidden, AreFromOne}
 pub use Hazards.{common, registers_between, accesses_of_memory, register_hazards, memory_hazards, hazards, access_name, place_name, hazard_text, hazards_text}
-pub use Numbers.{IsOf, AreOf, StepsAreOf}
-pub use Paths.{made_at, unhindered, LetsGoWith, Leads, WaitGoesOn, IsPath, AreOnce, AddsUp}
+pub use Numbers.{IsOf, AreStretchesOf, StepsAreOf}
+pub use Paths.{made_at, unhindered, LetsGoWith, Leads, WaitGoesOn, IsPath, AreEachOnce, AddsUp}
 pub use Reservations.{holds, units_chart, unit_reservation, register_reservations, mark, cell, cells, unit_head, unit_row, copy_rows, kind_rows, register_head, register_row, register_rows}
 pub use Reservations.{reservation_rows, units_width}
 pub use Rows.{before_row, row_in, no_row_in, rows_in}
@@ -25,7 +25,7 @@ pub use Runs.{runs, until, IsInOrder}
 pub use Sums.{sum_of, AreAtMost, sums_line}
 pub use TextChart.{ruler, text_width, in_places, in_ten, chart_in_places, text_chart}
 pub use Units.{work, works, works_of_kind, taken_from, left_from}
-pub use Why.{stretch, path, before, lets_go, lower, lowest, holder, nobody, sooner, or_else, soonest, first_holder, second_holder, third_holder, slot, first_stretch, second_stretch, third_stretch}
+pub use Why.{stretch, path, before, lets_go, lower, lowest, holder, nobody, sooner, holder_or_else, soonest, first_holder, second_holder, third_holder, slot, first_stretch, second_stretch, third_stretch}
 pub use Why.{stretches_at, stretches, before_issue, before_start, decides, is_held, is_linked, next_wait, passes, walk, steps, steps_from, added, bank_name, register_name, register_text, cause_text}
 pub use Why.{conflict_name, on_right, in_three, text_after_number, text_at_end, stretch_text, stretch_line, path_line, steps_line, step_row, time_row, path_lines, conflict_number, lost, lost_line}
 pub use Why.{why_text}

@@ -9,8 +9,8 @@ abbrev pub IsOf : Block → ℕ → Type 0
 IsOf block n = (1 ≤ n) × (n ≤ length (instrs_of block))
 
 -- each stretch is of an instruction of the block, and so is its holder
-abbrev pub AreOf : Block → List Stretch → Type 0
-AreOf block xs = (x : Stretch) → Among x xs → IsOf block x.number × IsOf block x.holder.number
+abbrev pub AreStretchesOf : Block → List Stretch → Type 0
+AreStretchesOf block xs = (x : Stretch) → Among x xs → IsOf block x.number × IsOf block x.holder.number
 
 abbrev pub StepsAreOf : Block → List Step → Type 0
 StepsAreOf block xs = (x : Step) → Among x xs → IsOf block x.number

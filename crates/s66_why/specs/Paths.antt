@@ -77,9 +77,9 @@ IsPath b s p link t (x ∷ xs) =
     ⊎ ((q : Point) × (e : List Point) × IsInLine s p q e × (t ≡ q.issue + x.adds) × IsPath b e q InLine q.issue xs))))
 
 -- each number once
-abbrev pub AreOnce : List ℕ → Type 0
-AreOnce [] = Unit {0}
-AreOnce (n ∷ ns) = (has n ns ≡ false) × AreOnce ns
+abbrev pub AreEachOnce : List ℕ → Type 0
+AreEachOnce [] = Unit {0}
+AreEachOnce (n ∷ ns) = (has n ns ≡ false) × AreEachOnce ns
 
 -- the steps of the points of an order, whose numbers are printed, are those of a path: they go from minor cycle 0 to the end of the
 -- instruction that ends last, and add the time of the order

@@ -54,8 +54,8 @@ abbrev pub sooner : Holder → Holder → Holder
 sooner a b = if not (b.number == 0) && (a.number == 0 || nat_lt b.number a.number) then b else a
 
 -- the first, or the second if there is no first
-abbrev pub or_else : Holder → Holder → Holder
-or_else a b = if a.number == 0 then b else a
+abbrev pub holder_or_else : Holder → Holder → Holder
+holder_or_else a b = if a.number == 0 then b else a
 
 -- of those whose results in these registers are done then the one of the lowest number, and of equal ones the first register;
 -- or the holder so far, if that is sooner
@@ -65,11 +65,11 @@ soonest best t s (r ∷ rs) = soonest (sooner best (holder (Writes r) t s)) t s 
 
 -- what p waits for until it issues: a result in a register that it writes, or else a unit
 abbrev pub first_holder : List Point → Point → Holder
-first_holder s p = or_else (soonest nobody p.issue s (map (λ (w : Write). w.reg) p.row.writes)) (holder (Takes p.row.kind) p.issue s)
+first_holder s p = holder_or_else (soonest nobody p.issue s (map (λ (w : Write). w.reg) p.row.writes)) (holder (Takes p.row.kind) p.issue s)
 
 -- until it starts: a result in a register that it reads, or else a reference to memory
 abbrev pub second_holder : List Point → Point → Holder
-second_holder s p = or_else (soonest nobody p.start s p.row.reads) (holder (References p.row.memory) p.start s)
+second_holder s p = holder_or_else (soonest nobody p.start s p.row.reads) (holder (References p.row.memory) p.start s)
 
 -- until its result is done: a reader of the register
 abbrev pub third_holder : List Point → Write → Holder

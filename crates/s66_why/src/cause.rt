@@ -1,7 +1,7 @@
 //! What an instruction waits for, and which one it is waited for of (`Cause`, `Holder`).
 
 ghost use Rattle.std.specs.Prelude.{◌≡◌};
-ghost use Rattle.s66_why.specs.{lower, sooner, or_else, nobody};
+ghost use Rattle.s66_why.specs.{lower, sooner, holder_or_else, nobody};
 
 use s66_isa::{Kind, Memory, Reg};
 
@@ -62,7 +62,7 @@ impl Holder {
 
     /// This one, or the other if this is nobody.
     pub fn or_else(self, other: Holder) -> Holder
-        ensures { result ≡ or_else self other }
+        ensures { result ≡ holder_or_else self other }
     {
         if self.number == 0 { other } else { self }
     }

@@ -2,7 +2,7 @@
 
 ghost use Rattle.std.specs.Prelude.{ℕ, ◌≡◌, ◌++◌, OnOk, length, map};
 ghost use Rattle.std.specs.List.{range_with_len};
-ghost use Rattle.s66_why.specs.{letter, row_text, until, IsInOrder};
+ghost use Rattle.s66_why.specs.{letter, chart_row_text, until, IsInOrder};
 
 use crate::activity::{Activity, IDLE, ISSUES, WAITS, WAITS_FOR_READERS, WORKS};
 use crate::places::push_blanks;
@@ -54,7 +54,7 @@ pub(crate) fn push_row(
     cycles: u32,
 ) -> Result<(), AllocError>
     requires { IsInOrder activity.now }
-    ensures { OnOk result (out.new.items ≡ out.old.items ++ row_text name.now activity.now cycles) }
+    ensures { OnOk result (out.new.items ≡ out.old.items ++ chart_row_text name.now activity.now cycles) }
 {
     push_blanks(out, NAME_ROOM.saturating_sub(name.len()))?;
     out.extend_from_slice(name)?;

@@ -4,7 +4,7 @@
 ghost use Rattle.std.specs.Prelude.{◌≡◌, ◌≤◌, ◌++◌, OnOk, IfOk, flat_map, length, map, reverse};
 ghost use Rattle.s66_isa.specs.{BLOCK_LIMIT};
 ghost use Rattle.s66_line.specs.{instrs_of};
-ghost use Rattle.s66_why.specs.{text_width, AreOf, IsOf, StepsAreOf, bank_name, register_name, register_text, cause_text, conflict_name, in_three, lost, on_right, path_line, path_lines, step_row};
+ghost use Rattle.s66_why.specs.{text_width, AreStretchesOf, IsOf, StepsAreOf, bank_name, register_name, register_text, cause_text, conflict_name, in_three, lost, on_right, path_line, path_lines, step_row};
 ghost use Rattle.s66_why.specs.{steps_line, stretch_line, stretch_text, stretches, text_after_number, text_at_end, time_row, why_text, sum_of, sums_line, Step as StepOf, Conflict as ConflictOf};
 
 use crate::cause::Cause;
@@ -166,7 +166,7 @@ fn push_lines(
     width: usize,
     waits: &[Stretch],
 ) -> Result<(), AllocError>
-    requires numbers { AreOf block.now waits.now }
+    requires numbers { AreStretchesOf block.now waits.now }
     requires width { width ≡ text_width block.now }
     ensures { OnOk result (out.new.items ≡ out.old.items ++ flat_map (stretch_line texts block.now) waits.now) }
 {
@@ -185,7 +185,7 @@ fn push_all_lines(
     points: &[PlacedInstr],
 ) -> Result<Lost, AllocError>
     requires few { length points.now ≤ BLOCK_LIMIT }
-    requires numbers { AreOf block.now (stretches (reverse points.now)) }
+    requires numbers { AreStretchesOf block.now (stretches (reverse points.now)) }
     requires width { width ≡ text_width block.now }
     ensures lines { OnOk result (out.new.items ≡ out.old.items ++
         flat_map (stretch_line texts block.now) (stretches (reverse points.now))) }

@@ -42,9 +42,9 @@ impl Outcome<Ticket, Hand> for Puts {
 pub(crate) struct Takes;
 
 impl Outcome<Ticket, Hand> for Takes {
-    ghost use Rattle.s66_share.specs.Hands.{HasTaken};
+    ghost use Rattle.s66_share.specs.Hands.{HasTakenTickets};
 
-    ghost then = { HasTaken };
+    ghost then = { HasTakenTickets };
 }
 
 /// A part of the owner's goes to a new pass.

@@ -20,13 +20,13 @@ pub struct Order {
 }
 
 impl Model for Order {
-    ghost use Rattle.s66_time.specs.Ordered.{Ordered, IsOrdered};
+    ghost use Rattle.s66_time.specs.Ordered.{Ordered, IsKeptOrder};
 
     ghost Value = { Ordered };
 
     ghost view = { λ o. record { block = o.instrs.items; numbers = o.order.items } };
 
-    ghost invariant = { λ o. IsOrdered o.instrs.items o.order.items };
+    ghost invariant = { λ o. IsKeptOrder o.instrs.items o.order.items };
 }
 
 /// Why a list of numbers is no legal order of a block.
@@ -45,7 +45,7 @@ impl Order {
     ghost use Rattle.s66_isa.specs.{instr_at, numbers, BLOCK_LIMIT};
     ghost use Rattle.s66_line.specs.{instrs_of};
     ghost use Rattle.s66_model.specs.{IsLegal, KeepsMeaning};
-    ghost use Rattle.s66_time.specs.{IsRefusal};
+    ghost use Rattle.s66_time.specs.{IsListRefusal};
 
     /// The source order, in time linear in its length.
     pub fn source(block: &Block) -> Order
@@ -71,7 +71,7 @@ impl Order {
         ensures taken { IsTrue (is_ok result) ↔ IsLegal (instrs_of block.now) numbers.now }
         ensures ok { IfOk result (λ order. (order.block ≡ instrs_of block.now) × (order.numbers ≡ numbers.now)) }
         ensures meaning { IfOk result (λ order. KeepsMeaning order.block order.numbers) }
-        ensures err { IfErr result (λ refusal. IsRefusal (instrs_of block.now) numbers.now refusal.at) }
+        ensures err { IfErr result (λ refusal. IsListRefusal (instrs_of block.now) numbers.now refusal.at) }
     {
         let front = beginning_length(block, numbers);
         if front < numbers.len() || front < block.count() {

@@ -1,7 +1,7 @@
 //! The members of a block: number, label, lines, size, profile, instructions and the source order.
 
 ghost use Rattle.std.specs.Prelude.{◌≡◌, ◌++◌, OnOk};
-ghost use Rattle.s66_views.specs.{head_text, lines_text, name_of_block, size_text, start_text};
+ghost use Rattle.s66_views.specs.{head_text, json_lines_text, name_of_block, size_text, start_text};
 
 use crate::json_lines::instruction::push_instructions;
 use crate::json_lines::label::push_label;
@@ -29,7 +29,7 @@ fn push_name(out: &mut Vec<u8>, number: usize, label: &[u8], entry: &[u8]) -> Re
 /// Its first and its last line.
 #[tactic(auto, unfolding(crate::specs::Pieces::lines_text))]
 fn push_lines(out: &mut Vec<u8>, block: &Block) -> Result<(), AllocError>
-    ensures { OnOk result (out.new.items ≡ out.old.items ++ lines_text block.now) }
+    ensures { OnOk result (out.new.items ≡ out.old.items ++ json_lines_text block.now) }
 {
     let count = block.count();
     push_field(out, b",\"line\":", block.line(1) as usize)?;

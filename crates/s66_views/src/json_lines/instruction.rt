@@ -4,7 +4,7 @@ ghost use Rattle.std.specs.Prelude.{◌≡◌, ◌≤◌, ◌++◌, OnOk, length
 ghost use Rattle.s66_isa.specs.{numbers_in};
 ghost use Rattle.s66_model.specs.{needs};
 ghost use Rattle.s66_line.specs.{instrs_of};
-ghost use Rattle.s66_views.specs.{instruction_text, instructions_text, needs_text, operands_text, source_text, work_text};
+ghost use Rattle.s66_views.specs.{json_instruction_text, json_instructions_text, needs_text, operands_text, source_text, work_text};
 
 use crate::json_lines::list::{push_numbers, push_registers, push_writes};
 use crate::json_lines::string::push_string;
@@ -75,7 +75,7 @@ fn push_instruction(
     requires first { 1 ≤ number }
     requires last { number ≤ length (instrs_of block.now) }
     requires after { numbers_in after.now ≡ needs (instrs_of block.now) number }
-    ensures { OnOk result (out.new.items ≡ out.old.items ++ instruction_text profile.now block.now number) }
+    ensures { OnOk result (out.new.items ≡ out.old.items ++ json_instruction_text profile.now block.now number) }
 {
     let row = Row::of(&block.instr(number), profile);
     push_source(out, block, number)?;
@@ -90,7 +90,7 @@ pub(crate) fn push_instructions(
     profile: &Profile,
     block: &Block,
 ) -> Result<(), AllocError>
-    ensures { OnOk result (out.new.items ≡ out.old.items ++ instructions_text profile.now block.now) }
+    ensures { OnOk result (out.new.items ≡ out.old.items ++ json_instructions_text profile.now block.now) }
 {
     let dependences = Dependences::of(block);
     push_text(out, b",\"instructions\":[")?;

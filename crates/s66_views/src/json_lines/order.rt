@@ -3,7 +3,7 @@
 ghost use Rattle.std.specs.Prelude.{◌≡◌, ◌≤◌, ◌++◌, OnOk, IfOk, length, map, reverse};
 ghost use Rattle.s66_isa.specs.{BLOCK_LIMIT};
 ghost use Rattle.s66_why.specs.{sum_of, lost, stretches, Step as StepOf, Conflict as ConflictOf};
-ghost use Rattle.s66_views.specs.{bound_text, lost_text, path_text, points_text, steps_text, timed_text};
+ghost use Rattle.s66_views.specs.{json_bound_text, lost_text, path_text, points_text, steps_text, timed_text};
 ghost use Rattle.s66_views.specs.Pieces.{order_text};
 
 use crate::json_lines::list::{push_added, push_numbers};
@@ -103,7 +103,7 @@ pub(crate) fn push_bound(
     splits: u32,
     best: bool,
 ) -> Result<(), AllocError>
-    ensures { OnOk result (out.new.items ≡ out.old.items ++ bound_text bound splits best) }
+    ensures { OnOk result (out.new.items ≡ out.old.items ++ json_bound_text bound splits best) }
 {
     push_field(out, b",\"bound\":", bound as usize)?;
     push_text(out, b",\"best\":")?;

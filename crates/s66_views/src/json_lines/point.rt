@@ -2,7 +2,7 @@
 
 ghost use Rattle.std.specs.Prelude.{◌≡◌, ◌++◌, OnOk};
 ghost use Rattle.s66_model.specs.{latest_result};
-ghost use Rattle.s66_views.specs.{lists_text, place_text, point_text, result_text, results_text, times_text};
+ghost use Rattle.s66_views.specs.{lists_text, place_text, point_text, result_text, results_text, json_times_text};
 
 use crate::json_lines::text::{push_comma, push_text};
 use crate::json_lines::wait::push_waits;
@@ -60,7 +60,7 @@ fn done(point: &PlacedInstr) -> usize
 /// When it starts, is done, and frees its unit.
 #[tactic(auto, unfolding(crate::specs::Pieces::times_text))]
 fn push_times(out: &mut Vec<u8>, point: &PlacedInstr) -> Result<(), AllocError>
-    ensures { OnOk result (out.new.items ≡ out.old.items ++ times_text point.now) }
+    ensures { OnOk result (out.new.items ≡ out.old.items ++ json_times_text point.now) }
 {
     push_field(out, b",\"start\":", point.start as usize)?;
     push_field(out, b",\"done\":", done(point))?;

@@ -2,7 +2,7 @@
 
 ghost use Rattle.std.specs.Prelude.{◌≡◌, ◌++◌, false, OnOk};
 ghost use Rattle.s66_command.specs.{changes};
-ghost use Rattle.s66_views.specs.{changes_listed, profile_text};
+ghost use Rattle.s66_views.specs.{changes_listed, profile_member_text};
 
 use crate::json_lines::string::push_string;
 use crate::json_lines::text::{push_comma, push_text};
@@ -25,7 +25,7 @@ fn push_listed(out: &mut Vec<u8>, changes: &[Change]) -> Result<(), AllocError>
 
 /// Numbers of a profile as a member of an object, if there are any.
 fn push_changes(out: &mut Vec<u8>, changes: &[Change]) -> Result<(), AllocError>
-    ensures { OnOk result (out.new.items ≡ out.old.items ++ profile_text changes.now) }
+    ensures { OnOk result (out.new.items ≡ out.old.items ++ profile_member_text changes.now) }
 {
     match changes {
         [] => Ok(()),
@@ -38,7 +38,7 @@ fn push_changes(out: &mut Vec<u8>, changes: &[Change]) -> Result<(), AllocError>
 
 /// The numbers of a profile that aren't the standard profile's, if there are any.
 pub(crate) fn push_profile(out: &mut Vec<u8>, profile: &Profile) -> Result<(), AllocError>
-    ensures { OnOk result (out.new.items ≡ out.old.items ++ profile_text (changes profile.now)) }
+    ensures { OnOk result (out.new.items ≡ out.old.items ++ profile_member_text (changes profile.now)) }
 {
     push_changes(out, changes_of(profile).as_slice())
 }

@@ -1,7 +1,7 @@
 //! The object of a stretch in which an instruction waits.
 
 ghost use Rattle.std.specs.Prelude.{◌≡◌, ◌++◌, OnOk, codes};
-ghost use Rattle.s66_views.specs.{cause_text, register_text, unit_text, wait_start, wait_text, waits_text};
+ghost use Rattle.s66_views.specs.{json_cause_text, json_register_text, unit_text, wait_start, wait_text, waits_text};
 
 use crate::json_lines::text::{push_comma, push_text};
 use crate::json_lines::words::{conflict, push_register, unit};
@@ -24,7 +24,7 @@ fn push_wait_start(out: &mut Vec<u8>, stretch: &Stretch) -> Result<(), AllocErro
 /// A register that is waited for.
 fn push_for_register(out: &mut Vec<u8>, register: Reg) -> Result<(), AllocError>
     ensures { OnOk result (out.new.items ≡ out.old.items ++
-        (codes ",\"for\":\"register\",\"name\":" ++ register_text register)) }
+        (codes ",\"for\":\"register\",\"name\":" ++ json_register_text register)) }
 {
     push_text(out, b",\"for\":\"register\",\"name\":")?;
     push_register(out, register)
@@ -41,7 +41,7 @@ fn push_for_unit(out: &mut Vec<u8>, kind: Kind) -> Result<(), AllocError>
 /// What is waited for.
 #[tactic(auto, unfolding(crate::specs::Pieces::cause_text, crate::specs::Pieces::sort_text, crate::specs::Pieces::name_text, crate::specs::Pieces::register_text, crate::specs::Pieces::unit_text, serde_json::proofs::OnLiterals::serde_json_on_literals))]
 fn push_cause(out: &mut Vec<u8>, cause: &Cause) -> Result<(), AllocError>
-    ensures { OnOk result (out.new.items ≡ out.old.items ++ cause_text cause.now) }
+    ensures { OnOk result (out.new.items ≡ out.old.items ++ json_cause_text cause.now) }
 {
     match cause {
         Cause::Writes(register) | Cause::Reads(register) => push_for_register(out, *register),

@@ -3,7 +3,7 @@
 ghost use Rattle.std.specs.Prelude.{◌≡◌, ◌++◌, ◌∷◌, OnOk};
 ghost use Rattle.json.specs.Print.{escape};
 ghost use Rattle.s66_why.specs.{bank_name};
-ghost use Rattle.s66_views.specs.{conflict_text, memory_text, register_text, truth_text, unit_text};
+ghost use Rattle.s66_views.specs.{conflict_text, memory_text, json_register_text, truth_text, unit_text};
 
 use crate::json_lines::text::push_text;
 use s66_isa::{Bank, Kind, Memory, Reg};
@@ -72,7 +72,7 @@ fn quoted_bank(bank: Bank) -> &'static [u8]
 /// A register.
 #[tactic(auto, unfolding(crate::specs::Pieces::register_text, json::specs::Print::escape_byte))]
 pub(crate) fn push_register(out: &mut Vec<u8>, register: Reg) -> Result<(), AllocError>
-    ensures { OnOk result (out.new.items ≡ out.old.items ++ register_text register) }
+    ensures { OnOk result (out.new.items ≡ out.old.items ++ json_register_text register) }
 {
     push_text(out, quoted_bank(register.bank()))?;
     push_text(out, &[b'0' + register.digit(), b'"'])

@@ -2,9 +2,9 @@
 
 ghost use Rattle.std.specs.Prelude.{◌≡◌, ◌<◌, ◌^◌, ◌++◌, OnOk};
 ghost use Rattle.s66_line.specs.{instrs_of};
-ghost use Rattle.s66_views.specs.{best_cell, best_text, block_anchor, block_head, block_place, block_text, block_times, block_title, block_verdict, bound_cell, cell, entry_cell, index_link, index_row};
-ghost use Rattle.s66_views.specs.{listing, reasons_below, summary, time_cells, total_row};
-ghost use Rattle.s66_views.specs.Page.{bound_text};
+ghost use Rattle.s66_views.specs.{best_cell, best_text, block_anchor, page_block_head, block_place, block_text, block_times, block_title, block_verdict, bound_cell, table_cell, entry_cell, index_link, index_row};
+ghost use Rattle.s66_views.specs.{page_listing, reasons_below, summary, time_cells, total_row};
+ghost use Rattle.s66_views.specs.Page.{page_bound_text};
 
 use crate::page::escape::{push_escaped, push_escaped_lines};
 use crate::page::order::push_order;
@@ -41,7 +41,7 @@ pub(crate) fn summary_of(
 /// That a time is best, or what every order takes at least.
 #[tactic(auto, unfolding(crate::specs::Page::bound_text))]
 fn push_bound(out: &mut Vec<u8>, time: u32, bound: u32) -> Result<(), AllocError>
-    ensures { OnOk result (out.new.items ≡ out.old.items ++ bound_text time bound) }
+    ensures { OnOk result (out.new.items ≡ out.old.items ++ page_bound_text time bound) }
 {
     if bound == time {
         push_text(out, b"BEST")
@@ -111,7 +111,7 @@ fn push_block_verdict(out: &mut Vec<u8>, summary: &Summary) -> Result<(), AllocE
 /// The heading of a block.
 #[tactic(auto, unfolding(crate::specs::Page::block_head))]
 fn push_block_head(out: &mut Vec<u8>, entry: &[u8], summary: &Summary) -> Result<(), AllocError>
-    ensures { OnOk result (out.new.items ≡ out.old.items ++ block_head entry.now summary.now) }
+    ensures { OnOk result (out.new.items ≡ out.old.items ++ page_block_head entry.now summary.now) }
 {
     push_block_title(out, entry, summary)?;
     push_block_verdict(out, summary)
@@ -137,7 +137,7 @@ fn push_best(
 /// Lines below each other.
 #[tactic(auto, unfolding(crate::specs::Page::listing))]
 fn push_listing(out: &mut Vec<u8>, text: &[u8]) -> Result<(), AllocError>
-    ensures { OnOk result (out.new.items ≡ out.old.items ++ listing text.now) }
+    ensures { OnOk result (out.new.items ≡ out.old.items ++ page_listing text.now) }
 {
     push_text(out, b"<pre style='columns:auto'>")?;
     push_escaped_lines(out, text)?;
@@ -192,7 +192,7 @@ fn push_index_link(out: &mut Vec<u8>, number: usize) -> Result<(), AllocError>
 /// A number of a row.
 #[tactic(auto, unfolding(crate::specs::Page::cell))]
 fn push_cell(out: &mut Vec<u8>, number: usize) -> Result<(), AllocError>
-    ensures { OnOk result (out.new.items ≡ out.old.items ++ cell number) }
+    ensures { OnOk result (out.new.items ≡ out.old.items ++ table_cell number) }
 {
     push_field(out, b"<td>", number)
 }

@@ -8,7 +8,7 @@ ghost use Rattle.s66_line.specs.{Block as BlockOf};
 ghost use Rattle.s66_time.specs.TimedOrder.{TimedOrder};
 ghost use Rattle.s66_time.specs.{point_at};
 ghost use Rattle.s66_why.specs.{stretches_at, Stretch as StretchOf};
-ghost use Rattle.s66_views.specs.{escaped_byte, escaped, escaped_lines, is_harmless, is_harmless_or_newline, is_reference_or, instruction_row, on_path, order_text, Holds, place_of_bar, title_of_times};
+ghost use Rattle.s66_views.specs.{escaped_byte, escaped, escaped_lines, is_harmless, is_harmless_or_newline, is_reference_or, page_instruction_row, on_path, page_order_text, Holds, place_of_bar, title_of_times};
 ghost use Rattle.s66_views.specs.{is_still, PAGE_START, PAGE_HEAD, PAGE_LIST, PAGE_PAIRS};
 
 /// A source can't break out of its text. Whatever its bytes are, an escaped text has printed bytes of ASCII and tabs alone, and no
@@ -33,14 +33,14 @@ pub fn head_law()
 /// from the start for the latency of the last result, and one for each stretch in which the instruction is kept back.
 pub fn row_law()
     ensures rows { (block : BlockOf) (title : List ℕ) (t : TimedOrder) (i : ℕ) → i < length t.numbers →
-        Holds (order_text block title t)
-        (instruction_row block (on_path t) (points_of t.problem (take i t.numbers)) (point_at t i)) }
+        Holds (page_order_text block title t)
+        (page_instruction_row block (on_path t) (points_of t.problem (take i t.numbers)) (point_at t i)) }
     ensures times { (block : BlockOf) (on_path : List ℕ) (s : List PointOf) (p : PointOf) →
-        Holds (instruction_row block on_path s p) (title_of_times p) }
+        Holds (page_instruction_row block on_path s p) (title_of_times p) }
     ensures work { (block : BlockOf) (on_path : List ℕ) (s : List PointOf) (p : PointOf) →
-        Holds (instruction_row block on_path s p) (place_of_bar p.start (latency_of p.row)) }
+        Holds (page_instruction_row block on_path s p) (place_of_bar p.start (latency_of p.row)) }
     ensures waits { (block : BlockOf) (on_path : List ℕ) (s : List PointOf) (p : PointOf) (x : StretchOf) →
-        Among x (stretches_at s p) → Holds (instruction_row block on_path s p) (place_of_bar x.from (x.to - x.from)) }
+        Among x (stretches_at s p) → Holds (page_instruction_row block on_path s p) (place_of_bar x.from (x.to - x.from)) }
 {}
 
 /// Texts that are not still, each for another word.

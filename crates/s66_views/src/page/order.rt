@@ -4,7 +4,7 @@ ghost use Rattle.std.specs.Prelude.{◌≡◌, ◌+◌, ◌*◌, ◌/◌, ◌<�
 ghost use Rattle.s66_model.specs.{points_of};
 ghost use Rattle.s66_line.specs.{instrs_of};
 ghost use Rattle.s66_why.specs.{works};
-ghost use Rattle.s66_views.specs.{all_rows, on_path, heading, heading_end, order_head, order_text, table_start, why_below, tick, ticks};
+ghost use Rattle.s66_views.specs.{all_rows, on_path, heading, heading_end, order_head, page_order_text, table_start, why_below, tick, ticks};
 
 use crate::page::register::push_register_rows;
 use crate::page::row::push_rows;
@@ -116,7 +116,7 @@ pub(crate) fn push_order(
     timed: &Timed,
 ) -> Result<(), AllocError>
     requires { timed.now.problem.block ≡ instrs_of block.now }
-    ensures { OnOk result (out.new.items ≡ out.old.items ++ order_text block.now title.now timed.now) }
+    ensures { OnOk result (out.new.items ≡ out.old.items ++ page_order_text block.now title.now timed.now) }
 {
     push_order_head(out, title, timed.total())?;
     push_all_rows(out, block, timed)?;

@@ -3,7 +3,7 @@
 ghost use Rattle.std.specs.Prelude.{◌≡◌, ◌<◌, ◌^◌, ◌++◌, OnOk, length};
 ghost use Rattle.s66_isa.specs.{tally, weigh};
 ghost use Rattle.s66_line.specs.{instrs_of};
-ghost use Rattle.s66_views.specs.{AreOf, as_found, as_written, entries, entry, index, is_best, page_head, page_text, page_title, profile_line, summaries, summary, Summary as SummaryOf};
+ghost use Rattle.s66_views.specs.{AreOf, as_found, as_written, page_entries, entry, index, is_best, page_head, page_text, page_title, profile_line, summaries, summary, Summary as SummaryOf};
 
 use crate::page::block::{push_block, push_index_row, push_total_row, summary_of};
 use crate::page::escape::push_escaped;
@@ -76,7 +76,7 @@ fn push_entries(
     requires found { AreOf blocks.now found.now }
     ensures profile { timer.new ≡ timer.old }
     ensures text { OnOk result (out.new.items ≡ out.old.items ++
-        entries (entry part timer.old) before blocks.now found.now) }
+        page_entries (entry part timer.old) before blocks.now found.now) }
 {
     let mut blocks = blocks;
     let mut found = found;

@@ -4,7 +4,7 @@ ghost use Rattle.std.specs.Prelude.{◌≡◌, ◌≤◌, ◌<◌, ◌+◌, ◌*
 ghost use Rattle.s66_line.specs.{instrs_of};
 ghost use Rattle.s66_source.specs.{SOURCE_LINES_LIMIT};
 ghost use Rattle.s66_compare.specs.{AreOfBlocks, IsRowOf, counted, judged};
-ghost use Rattle.s66_views.specs.{as_written, order_text, IsPairsPage, all_pairs, both_orders, in_new, in_old, in_order, pair_part, pairs_head, pairs_list, pairs_text, row_orders, row_said};
+ghost use Rattle.s66_views.specs.{as_written, page_order_text, IsPairsPage, all_pairs, both_orders, in_new, in_old, in_order, pair_part, pairs_head, pairs_list, pairs_text, row_orders, row_said};
 
 use crate::page::block::push_block_anchor;
 use crate::page::escape::push_escaped;
@@ -68,7 +68,7 @@ fn push_written(
 ) -> Result<(), AllocError>
     ensures profile { timer.new ≡ timer.old }
     ensures text { OnOk result (out.new.items ≡ out.old.items ++
-        order_text block.now title.now (as_written timer.old block.now)) }
+        page_order_text block.now title.now (as_written timer.old block.now)) }
 {
     let timed = timer.time(block, &Order::source(block));
     push_order(out, block, title, &timed)
@@ -101,7 +101,7 @@ fn push_reordered(
     ensures profile { timer.new ≡ timer.old }
     ensures text { OnOk result (out.new.items ≡ out.old.items ++
         (in_old timer.old old.now ++
-        order_text old.now (codes "In the new source") (in_order timer.old old.now order.now.numbers))) }
+        page_order_text old.now (codes "In the new source") (in_order timer.old old.now order.now.numbers))) }
 {
     push_old(out, timer, old)?;
     let timed = timer.time(old, order);

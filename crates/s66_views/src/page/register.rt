@@ -2,7 +2,7 @@
 
 ghost use Rattle.std.specs.Prelude.{◌≡◌, ◌≤◌, ◌++◌, OnOk, flat_map, length};
 ghost use Rattle.s66_isa.specs.{BLOCK_LIMIT};
-ghost use Rattle.s66_views.specs.{register_bar, register_head, register_row, register_row_of, register_rows};
+ghost use Rattle.s66_views.specs.{register_bar, page_register_head, page_register_row, register_row_of, page_register_rows};
 
 use crate::page::bar::push_numbered_bar;
 use crate::page::text::{push_number_at, push_text};
@@ -33,7 +33,7 @@ fn push_register_bars(out: &mut Vec<u8>, reservations: &[Reservation]) -> Result
 /// How the row of a register begins.
 #[tactic(auto, unfolding(crate::specs::Page::register_head))]
 fn push_register_head(out: &mut Vec<u8>, register: Reg) -> Result<(), AllocError>
-    ensures { OnOk result (out.new.items ≡ out.old.items ++ register_head register) }
+    ensures { OnOk result (out.new.items ≡ out.old.items ++ page_register_head register) }
 {
     push_text(out, b"<tr class='register'><th>     ")?;
     push_register_name(out, register)?;
@@ -47,7 +47,7 @@ fn push_register_row(
     register: Reg,
     reservations: &[Reservation],
 ) -> Result<(), AllocError>
-    ensures { OnOk result (out.new.items ≡ out.old.items ++ register_row register reservations.now) }
+    ensures { OnOk result (out.new.items ≡ out.old.items ++ page_register_row register reservations.now) }
 {
     push_register_head(out, register)?;
     push_register_bars(out, reservations)?;
@@ -74,7 +74,7 @@ pub(crate) fn push_register_rows(
     points: &[PlacedInstr],
 ) -> Result<(), AllocError>
     requires { length points.now ≤ BLOCK_LIMIT }
-    ensures { OnOk result (out.new.items ≡ out.old.items ++ register_rows points.now) }
+    ensures { OnOk result (out.new.items ≡ out.old.items ++ page_register_rows points.now) }
 {
     for index in 0..REGISTER_COUNT {
         let register = Reg::of_index(index as u8);

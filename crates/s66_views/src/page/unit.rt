@@ -2,7 +2,7 @@
 
 ghost use Rattle.std.specs.Prelude.{◌≡◌, ◌*◌, ◌<◌, ◌≤◌, ◌^◌, ◌++◌, OnOk, flat_map, length};
 ghost use Rattle.s66_isa.specs.{BLOCK_LIMIT};
-ghost use Rattle.s66_views.specs.{unit_bars, share, taken, worked, unit_head, unit_shares, unit_row, unit_row_of, unit_rows, kind_rows, all_kind_rows};
+ghost use Rattle.s66_views.specs.{unit_bars, percentage_of, taken, worked, page_unit_head, unit_shares, page_unit_row, unit_row_of, unit_rows, page_kind_rows, all_kind_rows};
 
 use crate::page::bar::push_numbered_bar;
 use crate::page::text::{push_number_at, push_text, push_two};
@@ -74,7 +74,7 @@ fn cycles_worked(works: &[Work]) -> usize
 /// A share of a time, in per cent, rounded down.
 fn share(cycles: usize, total: u32) -> usize
     requires { cycles ≤ 2 ^ 40 }
-    ensures { result ≡ share cycles total }
+    ensures { result ≡ percentage_of cycles total }
 {
     if total == 0 {
         0
@@ -99,7 +99,7 @@ fn push_unit_head(
     taken: usize,
     works: usize,
 ) -> Result<(), AllocError>
-    ensures { OnOk result (out.new.items ≡ out.old.items ++ unit_head name.now taken works) }
+    ensures { OnOk result (out.new.items ≡ out.old.items ++ page_unit_head name.now taken works) }
 {
     push_text(out, b"<tr class='unit'><th>     ")?;
     push_text(out, name)?;
@@ -115,7 +115,7 @@ fn push_unit_row(
     works: &[Work],
 ) -> Result<(), AllocError>
     requires { length works.now ≤ BLOCK_LIMIT }
-    ensures { OnOk result (out.new.items ≡ out.old.items ++ unit_row kind total works.now) }
+    ensures { OnOk result (out.new.items ≡ out.old.items ++ page_unit_row kind total works.now) }
 {
     let taken = share(cycles_taken(works), total);
     let worked = share(cycles_worked(works), total);
@@ -167,7 +167,7 @@ fn push_kind_rows(
     kind: Kind,
 ) -> Result<(), AllocError>
     requires { length works.now ≤ BLOCK_LIMIT }
-    ensures { OnOk result (out.new.items ≡ out.old.items ++ kind_rows total works.now kind) }
+    ensures { OnOk result (out.new.items ≡ out.old.items ++ page_kind_rows total works.now kind) }
 {
     push_unit_rows(out, works.len(), kind, total, works_of_kind(works, kind))
 }

@@ -5,7 +5,7 @@ use Rattle.s66_line.specs.{Block}
 use Rattle.s66_source.specs.{Reading, SOURCE_LINES_LIMIT, ArePlaced, Placed, source_of}
 use Rattle.s66_answer.specs.{Status, Answer, AreAnswers, status_of, before, shown, AreAnswered}
 use Rattle.s66_answer.proofs.KeptParts.{kept-whole, of-read}
-use Rattle.s66_program.specs.{entries_of, Orders, loops_of, Loop, Row, all_placed, placed_part, AreNumbered, IsSumText, orders_of, rows_of}
+use Rattle.s66_program.specs.{entries_of, Orders, loops_of, Loop, Row, all_placed, placed_part, AreNumbered, IsSumText, orders_of, sum_rows_of}
 use Rattle.s66_program.proofs.PlacedAnswers.{all-within}
 use Rattle.s66_program.proofs.SumRows.{few-rows, length-placed, rows-numbered}
 use Rattle.s66_program.proofs.sum_text.sum_output.Goals as goal
@@ -47,8 +47,8 @@ sum_text-requires g c =
     let only = c.args.only in
     let blocks = c.blocks-2.result.now in
     let ps = c.in_ok-all.all.parts.items in
-    let same : c.in_ok-rows.rows.items ≡ rows_of (before only) (shown only blocks) ps =
-    c.in_ok-rows.ensures ∙ ap (rows_of c.blocks_before-before.result c.shown-blocks.result.now) c.as_slice-found.ensures.value ∙ ap₂ (λ n bs. rows_of n bs ps) c.blocks_before-before.ensures.value c.shown-blocks.ensures
+    let same : c.in_ok-rows.rows.items ≡ sum_rows_of (before only) (shown only blocks) ps =
+    c.in_ok-rows.ensures ∙ ap (sum_rows_of c.blocks_before-before.result c.shown-blocks.result.now) c.as_slice-found.ensures.value ∙ ap₂ (λ n bs. sum_rows_of n bs ps) c.blocks_before-before.ensures.value c.shown-blocks.ensures
     in
     record {
       numbered = subst AreNumbered (sym same) (rows-numbered (before only) (shown only blocks) ps);
@@ -67,15 +67,15 @@ returns g c =
     let (answers, are, is, ends) = placed c.args.strategy p style.trace only source all.status blocks all.parts.items c.blocks-2.ensures c.in_ok-all.ensures in
     let ps = all_placed p style.trace (shown only blocks) answers in
     let found : c.as_slice-found.result.now ≡ ps = c.as_slice-found.ensures.value ∙ is in
-    let rows : c.in_ok-rows.rows.items ≡ rows_of (before only) (shown only blocks) ps =
-    c.in_ok-rows.ensures ∙ ap (rows_of c.blocks_before-before.result c.shown-blocks.result.now) found
-    ∙ ap₂ (λ n bs. rows_of n bs ps) c.blocks_before-before.ensures.value c.shown-blocks.ensures in
+    let rows : c.in_ok-rows.rows.items ≡ sum_rows_of (before only) (shown only blocks) ps =
+    c.in_ok-rows.ensures ∙ ap (sum_rows_of c.blocks_before-before.result c.shown-blocks.result.now) found
+    ∙ ap₂ (λ n bs. sum_rows_of n bs ps) c.blocks_before-before.ensures.value c.shown-blocks.ensures in
     let orders : record { before = c.blocks_before-before.result; blocks = c.shown-blocks.result.now; found = c.as_slice-found.result.now } ≡ orders_of only (shown only blocks) ps =
     rw (c.blocks_before-before.ensures.value, c.shown-blocks.ensures, found) refl in
     let loops : c.as_slice.result.now ≡ loops_of (orders_of only (shown only blocks) ps) source =
     c.as_slice.ensures.value ∙ c.in_ok-loops.ensures ∙ ap (λ (o : Orders). loops_of o source) orders in
     let names : c.as_slice-2.result.now ≡ entries_of source = c.as_slice-2.ensures.value ∙ c.in_ok-entries.ensures in
-    let said : IsSumText p style (loops_of (orders_of only (shown only blocks) ps) source) (entries_of source) (rows_of (before only) (shown only blocks) ps) text =
+    let said : IsSumText p style (loops_of (orders_of only (shown only blocks) ps) source) (entries_of source) (sum_rows_of (before only) (shown only blocks) ps) text =
     subst (λ (xs : List Row). IsSumText p style (loops_of (orders_of only (shown only blocks) ps) source) (entries_of source) xs text) rows
     (subst (λ (names : List (List ℕ)). IsSumText p style (loops_of (orders_of only (shown only blocks) ps) source) names c.in_ok-rows.rows.items text) names
     (subst (λ (ls : List (Option Loop)). IsSumText p style ls c.as_slice-2.result.now c.in_ok-rows.rows.items text) loops c.in_ok-text.ensures)) in

@@ -5,7 +5,7 @@ use Rattle.s66_isa.specs.{Among}
 use Rattle.s66_isa.proofs.Lists.{got-among}
 use Rattle.s66_model.specs.{Vertex, Ending, vertex_of}
 use Rattle.s66_cert.specs.{tree_placed, document_of}
-use Rattle.s66_reasons.specs.{line_text, lines_text}
+use Rattle.s66_reasons.specs.{tree_line_text, lines_text}
 use Rattle.s66_reasons.proofs.Claimed.{all-found, few-lines_placed}
 use Rattle.s66_reasons.proofs.Texts.{lines-more}
 use Rattle.s66_reasons.proofs.paragraphs.push_paragraphs.Goals as goal
@@ -35,7 +35,7 @@ loop-line-preserved c =
     let l = c.loop-line in
     record {
       text = lines-more d lines l.place (c.line_at.new.path.items, vertex_of c.in-Some.line) _ _ c.in-Some.ensures
-          (c.in_ok-push_line.ensures.text ∙ ap (λ ns. l.out.items ++ line_text d ns (vertex_of c.in-Some.line)) c.as_slice.ensures.value)
+          (c.in_ok-push_line.ensures.text ∙ ap (λ ns. l.out.items ++ tree_line_text d ns (vertex_of c.in-Some.line)) c.as_slice.ensures.value)
           ∙ l.invariant.text;
       within = omega (arith, slice_get_within lines l.place (c.line_at.new.path.items, vertex_of c.in-Some.line) c.in-Some.ensures);
       problem = c.push_line.ensures.problem ∙ l.invariant.problem;

@@ -6,7 +6,7 @@ use Rattle.s66_model.specs.{IsLegal, Point, Problem, points_of, total}
 use Rattle.s66_model.proofs.PointTimes.{points_after-length}
 use Rattle.s66_line.specs.{Block, instrs_of}
 use Rattle.s66_time.proofs.OrderNumbers.{legal-range}
-use Rattle.s66_why.specs.{Step, AreOf, IsOf, StepsAreOf, sums_line, lost, lost_line, path_lines, steps, stretch_line, stretches}
+use Rattle.s66_why.specs.{Step, AreStretchesOf, IsOf, StepsAreOf, sums_line, lost, lost_line, path_lines, steps, stretch_line, stretches}
 use Rattle.s66_why.proofs.Forbidden.{points-met}
 use Rattle.s66_why.proofs.Lines.{line-of-sums}
 use Rattle.s66_why.proofs.Numbers.{each-among, steps-hold, stretches-hold}
@@ -27,7 +27,7 @@ push_all_lines-requires-clause-numbers c =
     let points : reverse c.as_slice-points.result.now ≡ points_of t.problem t.numbers = ap reverse is ∙ reverse-reverse (points_of t.problem t.numbers) in
     let all = own block t.problem t.numbers c.requires c.points_of-points.ensures.legal in
     let few = few-numbers t.problem t.numbers c.as_slice-points.result.now is c.as_slice-points.ensures.fits in
-    subst (λ (u : List Point). AreOf block (stretches u)) (sym points) (stretches-hold t.problem (IsOf block) t.numbers few (λ n among. ((all n among).0, all n among)))
+    subst (λ (u : List Point). AreStretchesOf block (stretches u)) (sym points) (stretches-hold t.problem (IsOf block) t.numbers few (λ n among. ((all n among).0, all n among)))
 
 pub push_path-requires-clause-numbers : goal.push_path-requires-clause-numbers
 push_path-requires-clause-numbers c =

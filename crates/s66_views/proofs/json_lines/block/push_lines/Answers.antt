@@ -1,12 +1,12 @@
 use Rattle.std.proofs.Common.{◌++◌, ◌∙◌, ap, ap₂, codes, decimal}
 use Rattle.std.proofs.lemmas.Result.{IfOk-equal}
 use Rattle.s66_line.specs.{line_of}
-use Rattle.s66_views.specs.{lines_text}
+use Rattle.s66_views.specs.{json_lines_text}
 use Rattle.s66_views.proofs.Appended.{of-four}
 use Rattle.s66_views.proofs.json_lines.block.push_lines.Goals as goal
 
 pub returns : goal.returns
-unfolding lines_text
+unfolding json_lines_text
 returns c =
     let out = c.args.out.now.items in
     let block = c.args.block.now in

@@ -1,6 +1,6 @@
 use Rattle.std.proofs.Common.{◌≡◌, ◌++◌, drop, nat_lt}
-use Rattle.s66_views.specs.{listed, list_text, result_text}
+use Rattle.s66_views.specs.{json_listed, list_text, result_text}
 use Rattle.s66_views.proofs.json_lines.point.push_results.Given as goal
 
 abbrev pub invariant-loop-i : goal.invariant-loop-i
-invariant-loop-i l = l.out.items ++ listed result_text (nat_lt 0 l.i) (drop l.i l.results) ≡ l.fn.out.items ++ list_text result_text l.results
+invariant-loop-i l = l.out.items ++ json_listed result_text (nat_lt 0 l.i) (drop l.i l.results) ≡ l.fn.out.items ++ list_text result_text l.results

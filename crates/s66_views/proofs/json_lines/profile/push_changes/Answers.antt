@@ -1,10 +1,10 @@
 use Rattle.std.proofs.Common.{◌≡◌, ◌≤◌, ◌++◌, ◌∙◌, List, [], ◌∷◌, ap, append_assoc, arith, codes, false, length, refl}
 use Rattle.std.proofs.lemmas.Result.{IfOk-equal}
 use Rattle.s66_command.specs.{Change}
-use Rattle.s66_views.specs.{changes_listed, profile_text}
+use Rattle.s66_views.specs.{changes_listed, profile_member_text}
 use Rattle.s66_views.proofs.json_lines.profile.push_changes.Goals as goal
 
-some-listed : (cs : List Change) → 1 ≤ length cs → codes ",\"profile\":{" ++ changes_listed false cs ≡ profile_text cs
+some-listed : (cs : List Change) → 1 ≤ length cs → codes ",\"profile\":{" ++ changes_listed false cs ≡ profile_member_text cs
 some-listed [] some = absurd (omega arith)
 some-listed (c ∷ cs) some = refl
 

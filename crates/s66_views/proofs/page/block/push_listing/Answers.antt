@@ -1,10 +1,10 @@
 use Rattle.std.proofs.Common.{◌++◌, codes}
-use Rattle.s66_views.specs.{escaped_lines, listing}
+use Rattle.s66_views.specs.{escaped_lines, page_listing}
 use Rattle.s66_views.proofs.Pieces.{more, last}
 use Rattle.s66_views.proofs.page.block.push_listing.Goals as goal
 
 pub returns : goal.returns
-unfolding listing
+unfolding page_listing
 returns c =
     let out = c.args.out.now.items in
     let front = codes "<pre style='columns:auto'>" in

@@ -3,7 +3,7 @@ use Rattle.std.proofs.lemmas.List.{reverse-reverse}
 use Rattle.std.proofs.lemmas.Result.{IfOk-equal}
 use Rattle.s66_model.specs.{Point, points_of}
 use Rattle.s66_why.specs.{Step, cycles_of, steps, works}
-use Rattle.s66_views.specs.{all_kind_rows, instruction_rows, on_path, register_rows}
+use Rattle.s66_views.specs.{all_kind_rows, instruction_rows, on_path, page_register_rows}
 use Rattle.s66_views.proofs.page.order.push_all_rows.Goals as goal
 
 pub returns : goal.returns
@@ -18,10 +18,10 @@ returns c =
     let path : c.as_slice-2.result.now ≡ on_path t = c.as_slice-2.ensures.value ∙ c.path_of-on_path.ensures ∙ ap (map (λ (x : Step). x.number)) walked in
     let drawn : c.as_slice-works.result.now ≡ works t = c.as_slice-works.ensures.value ∙ c.works_of-works.ensures in
     let units = all_kind_rows (cycles_of t) (works t) in
-    let registers = register_rows (reverse s) in
+    let registers = page_register_rows (reverse s) in
     let rows = instruction_rows block (on_path t) s in
     let first : c.push_all_kind_rows.new.out.items ≡ out ++ units = c.in_ok-push_all_kind_rows.ensures ∙ ap (λ zs. out ++ zs) (ap₂ all_kind_rows c.total-2.ensures.value drawn) in
     let second : c.push_register_rows.new.out.items ≡ out ++ units ++ registers =
-    c.in_ok-push_register_rows.ensures ∙ ap₂ (λ xs ps. xs ++ register_rows ps) first are_points in
+    c.in_ok-push_register_rows.ensures ∙ ap₂ (λ xs ps. xs ++ page_register_rows ps) first are_points in
     IfOk-equal c.push_rows.result _ _ _ c.push_rows.ensures
     (ap₂ (λ xs ns. xs ++ instruction_rows block ns s) second path ∙ ap (λ xs. xs ++ rows) (append_assoc out units registers) ∙ append_assoc out (units ++ registers) rows)

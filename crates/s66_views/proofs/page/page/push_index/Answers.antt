@@ -1,6 +1,6 @@
 use Rattle.std.proofs.Common.{ℕ, List, ◌≡◌, ◌++◌, ◌∙◌, ap, codes}
 use Rattle.s66_isa.specs.{Profile}
-use Rattle.s66_views.specs.{Row, entries, entry, summaries, total_of_all, total_row}
+use Rattle.s66_views.specs.{Row, page_entries, entry, summaries, total_of_all, total_row}
 use Rattle.s66_views.proofs.Pieces.{more, last}
 use Rattle.s66_views.proofs.Totals.{total-is}
 use Rattle.s66_views.proofs.page.page.push_index.Goals as goal
@@ -12,7 +12,7 @@ returns-clause-text c =
     let found = c.args.found.now in
     let p = c.args.timer.now in
     let n = c.args.before in
-    let rows = entries (entry Row p) n blocks found in
+    let rows = page_entries (entry Row p) n blocks found in
     let q = c.push_entries.new.timer in
     let t = c.total_of.result in
     let total : total_row t.count t.source t.time t.best ≡ total_of_all (summaries p n blocks found) =

@@ -1,11 +1,11 @@
 use Rattle.std.proofs.Common.{◌++◌, codes}
 use Rattle.s66_why.specs.{register_name}
-use Rattle.s66_views.specs.{register_head}
+use Rattle.s66_views.specs.{page_register_head}
 use Rattle.s66_views.proofs.Pieces.{last, more}
 use Rattle.s66_views.proofs.page.register.push_register_head.Goals as goal
 
 pub returns : goal.returns
-unfolding register_head
+unfolding page_register_head
 returns c =
     let out = c.args.out.now.items in
     let start = codes "<tr class='register'><th>     " in

@@ -1,10 +1,10 @@
 use Rattle.std.proofs.Common.{◌++◌, codes}
-use Rattle.s66_views.specs.{unit_head, unit_shares}
+use Rattle.s66_views.specs.{page_unit_head, unit_shares}
 use Rattle.s66_views.proofs.Pieces.{more, last}
 use Rattle.s66_views.proofs.page.unit.push_unit_head.Goals as goal
 
 pub returns : goal.returns
-unfolding unit_head
+unfolding page_unit_head
 returns c =
     let out = c.args.out.now.items in
     let front = codes "<tr class='unit'><th>     " in
