@@ -5,8 +5,10 @@
 
 mod device;
 mod limits;
+mod printable;
 mod text;
 
 pub use device::{Failed, Feed, OverRead, OverWrite, Sink, WriteError, write_all};
 pub use limits::FAULT_ROOM;
+pub use printable::{printable_examples, push_printable};
 pub use text::{line_refusal, push_between, push_field, short_text};
