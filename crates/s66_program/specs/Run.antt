@@ -36,6 +36,11 @@ IsRefusal command input fault.Memory = Unit {0}
 IsRefusal command input fault.Read = ⊥
 IsRefusal command input fault.Write = ⊥
 
+-- an input was read and refused for such a fault, and nothing was written
+abbrev pub RefusesInput : Command → Reader → Reader → Writer → Writer → Fault → Type 0
+RefusesInput command reader reader' writer writer' f =
+    ((input : List ℕ) × ReadsAll reader reader' input × IsRefusal command input f) × IsUntouched writer writer'
+
 -- what a command leaves of its reader and its writer under a profile, by its result, with what is to be told and the status by that; out of
 -- memory is Memory and never Source or Document
 abbrev pub IsOutcomeUnder : Profile → Command → Reader → Reader → Writer → Writer → Result Ended Fault → Type 0
@@ -43,14 +48,10 @@ IsOutcomeUnder p command reader reader' writer writer' (Ok ended) =
     (input : List ℕ) × ReadsAll reader reader' input
     × ((text : List ℕ) × (status : Status) × IsOutput p command input text status × Writes writer writer' text
     × IsRemark command input text ended.remark × (ended.status ≡ raised command ended.remark status))
-IsOutcomeUnder p command reader reader' writer writer' (Err (fault.Source e)) =
-    ((input : List ℕ) × ReadsAll reader reader' input × IsRefusal command input (fault.Source e)) × IsUntouched writer writer'
-IsOutcomeUnder p command reader reader' writer writer' (Err (fault.NewSource e)) =
-    ((input : List ℕ) × ReadsAll reader reader' input × IsRefusal command input (fault.NewSource e)) × IsUntouched writer writer'
-IsOutcomeUnder p command reader reader' writer writer' (Err fault.NoNewSource) =
-    ((input : List ℕ) × ReadsAll reader reader' input × IsRefusal command input fault.NoNewSource) × IsUntouched writer writer'
-IsOutcomeUnder p command reader reader' writer writer' (Err (fault.Document e)) =
-    ((input : List ℕ) × ReadsAll reader reader' input × IsRefusal command input (fault.Document e)) × IsUntouched writer writer'
+IsOutcomeUnder p command reader reader' writer writer' (Err (fault.Source e)) = RefusesInput command reader reader' writer writer' (fault.Source e)
+IsOutcomeUnder p command reader reader' writer writer' (Err (fault.NewSource e)) = RefusesInput command reader reader' writer writer' (fault.NewSource e)
+IsOutcomeUnder p command reader reader' writer writer' (Err fault.NoNewSource) = RefusesInput command reader reader' writer writer' fault.NoNewSource
+IsOutcomeUnder p command reader reader' writer writer' (Err (fault.Document e)) = RefusesInput command reader reader' writer writer' (fault.Document e)
 IsOutcomeUnder p command reader reader' writer writer' (Err fault.Profile) = ⊥
 IsOutcomeUnder p command reader reader' writer writer' (Err fault.Memory) = ReadsSome reader reader' × IsUntouched writer writer'
 IsOutcomeUnder p command reader reader' writer writer' (Err fault.Read) = ReadFails reader reader' × IsUntouched writer writer'
