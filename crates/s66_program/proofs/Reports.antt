@@ -92,19 +92,33 @@ bound-line front p =
       | false ↦ sym (append_assoc front (codes " AT LEAST " ++ decimal p.bound) (codes "\n"))
     ]
 
-ending-either : (best : Bool) (front : List ℕ) (bound : ℕ) → bound < 2 ^ 64 →
-    EndsIn (front ++ ending best bound) (codes " BEST") ⊎ ((n : ℕ) × (n < 2 ^ 64) × EndsIn (front ++ ending best bound) (codes " AT LEAST " ++ decimal n))
-ending-either true front bound fits = inl (front, refl)
-ending-either false front bound fits = inr (bound, fits, (front, refl))
+-- the line ends in what it says: the answer is best, or this is its bound
+ending-says : (best : Bool) (front : List ℕ) (b : Problem) (bound time : ℕ) → bound < 2 ^ 64 → IsBound b bound → (best ≡ true → bound ≡ time) →
+    (EndsIn (front ++ ending best bound) (codes " BEST") × IsBound b time)
+    ⊎ ((n : ℕ) × (n < 2 ^ 64) × EndsIn (front ++ ending best bound) (codes " AT LEAST " ++ decimal n) × IsBound b n)
+ending-says true front b bound time fits is same = inl ((front, refl), subst (IsBound b) (same refl) is)
+ending-says false front b bound time fits is same = inr (bound, fits, (front, refl), is)
 
--- that the line ends so says that the answer is best, or that this is its bound
-best-read : (best : Bool) (front : List ℕ) (bound : ℕ) → bound < 2 ^ 64 → EndsIn (front ++ ending best bound) (codes " BEST") → best ≡ true
-best-read true front bound fits ends = refl
-best-read false front bound fits (before, ends) = absurd (best-no_number before front bound fits (sym ends))
+-- that the line ends so is enough: it ends in nothing else
+pub best-said : (p : Profile) (style : OrderStyle) (all : List Line) (n : ℕ) (block : Block) (text : List ℕ) (r : IsReported p style all n block text) → EndsIn r.line (codes " BEST") →
+    IsBound (problem_of p block) (total_of (problem_of p block) r.order)
+best-said p style all n block text r (before, ends) = by_ending r.says
+  where
+    by_ending : (EndsIn r.line (codes " BEST") × IsBound (problem_of p block) (total_of (problem_of p block) r.order))
+        ⊎ ((bound : ℕ) × (bound < 2 ^ 64) × EndsIn r.line (codes " AT LEAST " ++ decimal bound) × IsBound (problem_of p block) bound) →
+        IsBound (problem_of p block) (total_of (problem_of p block) r.order)
+    by_ending (inl (best, is)) = is
+    by_ending (inr (bound, fits, (front, least), is)) = absurd (best-no_number before front bound fits (sym ends ∙ least))
 
-least-read : (best : Bool) (front : List ℕ) (bound n : ℕ) → bound < 2 ^ 64 → n < 2 ^ 64 → EndsIn (front ++ ending best bound) (codes " AT LEAST " ++ decimal n) → bound ≡ n
-least-read true front bound n fits within (before, ends) = absurd (best-no_number front before n within ends)
-least-read false front bound n fits within (before, ends) = same-number front before bound n fits within ends
+pub least-said : (p : Profile) (style : OrderStyle) (all : List Line) (n : ℕ) (block : Block) (text : List ℕ) (r : IsReported p style all n block text) (bound : ℕ) → bound < 2 ^ 64 →
+    EndsIn r.line (codes " AT LEAST " ++ decimal bound) → IsBound (problem_of p block) bound
+least-said p style all n block text r bound within (before, ends) = by_ending r.says
+  where
+    by_ending : (EndsIn r.line (codes " BEST") × IsBound (problem_of p block) (total_of (problem_of p block) r.order))
+        ⊎ ((m : ℕ) × (m < 2 ^ 64) × EndsIn r.line (codes " AT LEAST " ++ decimal m) × IsBound (problem_of p block) m) →
+        IsBound (problem_of p block) bound
+    by_ending (inl ((front, best), is)) = absurd (best-no_number front before bound within (sym best ∙ ends))
+    by_ending (inr (m, fits, (front, least), is)) = subst (IsBound (problem_of p block)) (same-number front before m bound fits within (sym least ∙ ends)) is
 
 -- A BLOCK
 
@@ -129,9 +143,7 @@ block-reported strategy p style all n block a spelled is =
       legal = legal;
       one = every-append is_inside front (ending best a.bound) (inside-times n (length block.entries) (source_time b) a.time) (ending-inside best a.bound);
       times = (after_blank best a.bound, ending-blank best a.bound front ∙ ap (λ t. times_text n (length block.entries) (source_time b) t ++ codes " " ++ after_blank best a.bound) time);
-      ends = ending-either best front a.bound fits;
-      best = λ ends. subst (IsBound b) (eqb-true a.bound a.time (best-read best front a.bound fits ends) ∙ time) bound;
-      least = λ k small ends. subst (IsBound b) (least-read best front a.bound k fits small ends) bound;
+      says = ending-says best front b a.bound (total_of b a.order) fits bound (λ same. eqb-true a.bound a.time same ∙ time);
     }
 
 -- ALL BLOCKS

@@ -14,23 +14,26 @@ BeginsWith line front = (rest : List ℕ) × (line ≡ front ++ rest)
 abbrev pub EndsIn : (line ending : List ℕ) → Type 0
 EndsIn line ending = (front : List ℕ) × (line ≡ front ++ ending)
 
--- the text of a block, the n-th of a source of these lines: the line of its report and with the trace that of its splits, unless there are to
--- be none, its notes, and its instructions in some order
+-- what is reported of a block above its instructions: its line and with the trace that of its splits, unless there are to be none
+abbrev pub report_text : OrderStyle → (line : List ℕ) (splits : ℕ) → List ℕ
+report_text style line splits =
+    if style.quiet then [] else line ++ codes "\n" ++ splits_line (if style.trace then Some splits else None)
+
+-- the text of a block, the n-th of a source of these lines: its report, its notes, and its instructions in some order
 pub record IsReported (p : Profile) (style : OrderStyle) (all : List Line) (n : ℕ) (block : Block) (text : List ℕ) : Type 0 where
   pub line : List ℕ
   pub splits : ℕ
   pub order : List ℕ
-  pub whole : text ≡ (if style.quiet then [] else line ++ codes "\n" ++ splits_line (if style.trace then Some splits else None)) ++ notes_text block all ++ indented_lines (indents (columns_by style.columns) all block) block block.label order
+  -- the text is the report with this line and these splits, the notes, and the instructions in this order
+  pub whole : text ≡ report_text style line splits ++ notes_text block all
+      ++ indented_lines (indents (columns_by style.columns) all block) block block.label order
   pub legal : IsLegal (instrs_of block) order
   -- one line, which tells the block's number and what this order takes
   pub one : every (λ b. not (is_newline b)) line ≡ true
   pub times : BeginsWith line (times_text n (length block.entries) (source_time (problem_of p block)) (total_of (problem_of p block) order) ++ codes " ")
-  -- which ends in BEST, or in AT LEAST and a number
-  pub ends : EndsIn line (codes " BEST") ⊎ ((bound : ℕ) × (bound < 2 ^ 64) × EndsIn line (codes " AT LEAST " ++ decimal bound))
-  -- if it ends in BEST, no legal order takes less than this order
-  pub best : EndsIn line (codes " BEST") → IsBound (problem_of p block) (total_of (problem_of p block) order)
-  -- if it ends in AT LEAST and a number, no legal order takes less than that
-  pub least : (bound : ℕ) → bound < 2 ^ 64 → EndsIn line (codes " AT LEAST " ++ decimal bound) → IsBound (problem_of p block) bound
+  -- which ends in BEST, and no legal order takes less than this order, or in AT LEAST and a number, and none takes less than that
+  pub says : (EndsIn line (codes " BEST") × IsBound (problem_of p block) (total_of (problem_of p block) order))
+      ⊎ ((bound : ℕ) × (bound < 2 ^ 64) × EndsIn line (codes " AT LEAST " ++ decimal bound) × IsBound (problem_of p block) bound)
 
 -- the n-th block is asked for: each is, or the one of a number
 abbrev pub is_asked : Option ℕ → ℕ → Bool
