@@ -8,7 +8,8 @@ A part is what stands between `<!-- made by docs/definitions.py -->` and the nex
 
 - DEFINITIONS.md: how many definitions each promise needs; then, of each file of a crate's specs/ that says "To be believed" in
   its first line, what its first lines say after an empty comment line, and all definitions, in the words of the comments above
-  them; and the laws and the examples of the crate;
+  them; of each other file, the definitions that these use; and the types and the constants of the code that they name, the laws
+  and the examples of the crate;
 - ARCHITECTURE.md: the crates, by the heads (`//!`) of their lib.rt: what each is for, and where to begin;
 - FILES.md: the files of each crate's src/, by the first paragraphs of their heads, those of its specs/ and its lemma files, by their
   first lines, each with the names that other files may use. A file without a head or a first line is told;
@@ -31,12 +32,15 @@ WORD = re.compile(r"(?<![\w.'-])[A-Za-z][\w']*(?:-\w+)*(?:\.[a-z]\w*)*")
 LABEL = re.compile(r"(^ +(?:pub )?|[{;] *)[A-Za-z][\w'-]*(?= [:=] )", re.MULTILINE)  # of a field
 IMPORTED = re.compile(r"^ *(?:ghost )?use Rattle\.(s66_\w+)\.specs(?:\.(\w+))?\.\{([^}]*)\}", re.MULTILINE)
 DECLARED = re.compile(r"^use Rattle\.(s66_\w+)\.specs\.declared\.(\w+)\.(\w+)", re.MULTILINE)
+CONSTANTS = re.compile(r"^use Rattle\.(s66_\w+)\.specs\.declared\.([\w.]+)\.TheConstants\.\{([^}]*)\}", re.MULTILINE)
 RENAMED = re.compile(r"^use Rattle\.(s66_\w+)\.specs\.(\w+) as (\w+)$", re.MULTILINE)
-# in a crate's specs/Lib.antt: from which file it passes on names of definitions, and from which module and type those of the code
+# in a crate's specs/Lib.antt: from which file it passes on names of definitions, and from which module, and type, those of the code
 PASSED_ON = re.compile(r"^(?:unfoldable )?pub use (\w+)\.\{([^}]*)\}", re.MULTILINE)
+PASSED_CONSTANTS = re.compile(r"^pub use declared\.([\w.]+)\.TheConstants\.\{([^}]*)\}", re.MULTILINE)
 PASSED_TYPES = re.compile(r"^pub use declared\.(\w+)\.(\w+)(?:\.TheVariants)?\.\{([^}]*)\}", re.MULTILINE)
 EMPTY = re.compile(r"((?:^///.*\n)+)(?:^#\[.*\n)*^pub fn (\w+)\(\)\n((?:^ .*\n)+)^\{\}$", re.MULTILINE)
 TYPE = r"((?:^///.*\n)+)(?:^#\[.*\n)*^pub(?:\(\w+\))? (struct|enum) %s\b(?:.*\{\n((?:(?!\}).*\n)*))?"
+CONSTANT = r"((?:^///.*\n)*)(?:^#\[.*\n)*^(?:pub(?:\(\w+\))? )?const %s: .* =(?: (.*);$)?"
 CASE = re.compile(r"((?:^    ///.*\n)*)(?:^    #\[.*\n)*^    (\w+)", re.MULTILINE)
 NAMED = re.compile(r"^(?: {4})?(?:pub(?:\(crate\))? )(?:const )?(?:fn|struct|enum|trait|const) (\w+)|^(?:struct|enum|trait) (\w+)", re.MULTILINE)
 LEMMA = re.compile(r"^ *(?:abbrev |unfoldable )*pub (?:abbrev |record )?([^\s:(){}.]+) :", re.MULTILINE)
@@ -49,11 +53,12 @@ LONGEST_BODY = 110
 # of what these find nothing is proved but that it is safe, as PROMISES.md says
 ONLY_SAFE = {"s66_deep"}
 ORDER, TOTAL, BOUND = "s66_model/LegalOrder/IsLegal", "s66_model/Timing/total_of", "s66_model/BestAndBound/IsBound"
+RUN, CHECKED, FAULT = "s66_program/Program/IsRun", "s66_program/CheckText/IsCheckOutput", "s66_cert/Faults/IsFault"
 DOCUMENT, CLAIMED, SOURCE = "s66_cert/Documents/Document", "s66_checker/Verdict/problem_of", "s66_source/Source/source_of"
-# what only a run of another subcommand writes, and what of `order` follows from its law
+# what only a run of another subcommand writes, or `check` with `--text`, and what of `order` follows from its law
 OTHERS = [f"s66_program/{of}Text/Is{of}Output" for of in "Time Deps Chart Why Json Page Prove Check Lint Guard Sum Compare".split()]
 OTHERS += ["s66_program/CompareText/IsPairsOutput", "s66_program/OrderText/IsOrdered", "s66_program/Remarks/AreRegions"]
-OTHERS += ["s66_source/Halves/halves_of", "s66_cert/Faults/IsFault"]
+OTHERS += ["s66_source/Halves/halves_of", FAULT, "s66_reasons/Reasons/reasons_text"]
 # what a reader who wants to believe this has to read: these definitions, with all that they use
 TO_BELIEVE = [
     ("that an order is legal", [ORDER]),
@@ -66,7 +71,8 @@ TO_BELIEVE = [
     ("status 0 of `compare` (`same_meaning_law`)", ["s66_source/Halves/halves_of", "s66_compare/Meant/IsReordered", "s66_compare/Meant/KeepsSource"]),
     ("what `time` says of a source", ["s66_program/TimeText/IsTimeOutput"]),
     ("`BEST` and `AT LEAST` in what `order` writes (`reported_law`)", ["s66_program/Reports/ReportsBlocks"]),
-    ("that the program, called with `order`, writes this (`run_program`)", ["s66_program/Program/IsRun", "s66_program/Reports/ReportsBlocks"]),
+    ("that the program, called with `order`, writes this (`run_program`)", [RUN, "s66_program/Reports/ReportsBlocks"]),
+    ("`YES` in what the program writes, called with `check` without `--text` (`run_program`, `done_law`)", [RUN, CHECKED, FAULT, BOUND]),
     ("`BEST` and `AT LEAST` of an answer (`answered_law`)", [BOUND, SOURCE, "s66_program/OrderText/all_given", "s66_source/Replaced/printed_in"]),
 ]
 
@@ -217,13 +223,22 @@ def types_in(text, offers):
     return set(DECLARED.findall(text)) | {offers[crate].types[name] for crate, name in named if name in offers[crate].types}
 
 
+def constants_in(text, offers):
+    """The constants of the code that a file of definitions imports, by their names: of each the crate, the module and the name."""
+    found = {name: (crate, module, name) for crate, module, words in CONSTANTS.findall(text) for name in names_in(words)}
+    for crate, file, words in IMPORTED.findall(text):
+        found |= {name: offers[crate].constants[name] for name in names_in(words) if not file and name in offers[crate].constants}
+    return found
+
+
 class Offers:
-    """What is imported from a crate itself, as its specs/Lib.antt names it: definitions and types of the code, by their names."""
+    """What is imported from a crate itself, as its specs/Lib.antt names it: definitions, types and constants of the code, by their names."""
 
     def __init__(self, crate):
         path = f"crates/{crate}/specs/Lib.antt"
         text = read(path) if os.path.exists(os.path.join(ROOT, path)) else ""
         self.definitions = {name: (crate, file, name) for file, words in PASSED_ON.findall(text) for name in names_in(words)}
+        self.constants = {name: (crate, module, name) for module, words in PASSED_CONSTANTS.findall(text) for name in names_in(words)}
         self.types = {name: (crate, *of) for *of, words in PASSED_TYPES.findall(text) for name in names_in(words)}
 
 
@@ -238,6 +253,7 @@ class Specs:
         self.first, *self.paragraphs = first_comment(lines)
         self.imports = imports_of(text, offers)
         self.declared = types_in(text, offers)
+        self.constants = constants_in(text, offers)
         self.renamed = {short: (of, file) for of, file, short in RENAMED.findall(text)}
         self.items = []  # definitions, and notes that stand by themselves
         comment, indent = [], ""
@@ -306,10 +322,10 @@ class House:
         word = self.owners.get((crate, name, word), word)
         return next((d for d in specs.definitions() if d.name == word), None) if specs else None
 
-    def used_by(self, roots):
+    def used_by(self, roots, others=OTHERS):
         """These definitions and all that they use in turn but what other subcommands write, as crate, file and name."""
         todo, seen = [tuple(root.split("/")) for root in roots], {}
-        others = {tuple(other.split("/")) for other in OTHERS} - set(todo)
+        others = {tuple(other.split("/")) for other in others} - set(todo)
         while todo:
             crate, name, word = todo.pop()
             definition = self.find(crate, name, word)
@@ -319,6 +335,11 @@ class House:
             sources = map(self.specs[crate, name].source_of, sorted(definition.words()))
             todo += [source for source in sources if source]
         return seen
+
+    def believed(self):
+        """All definitions of files to be believed, and those of other files that they use in turn."""
+        roots = ["/".join((*place, name)) for place, specs in self.specs.items() if specs.is_believed() for name in specs.names()]
+        return self.used_by(roots, [])
 
 
 def listed(names):
@@ -338,15 +359,18 @@ def needs(house):
         most_first = sorted(counts, key=lambda file: (-counts[file], file))
         files = ", ".join(f"{counts[file]} of `{file}.antt`" for file in most_first)
         yield f"| {words} | {listed(root.split('/')[-1] for root in roots)}: {files} | {len(seen)} |\n"
+    seen = house.used_by([RUN], [])
+    yield f"| all of `run_program`, whatever the subcommand | `IsRun`: of {len({place[:2] for place in seen})} files | {len(seen)} |\n"
 
 
-def definitions_of(specs, worked, needed):
-    """A file of definitions: its subject, its paragraphs, and each definition; those without words at the end."""
+def definitions_of(specs, worked, needed, used):
+    """A file of definitions: its subject, its paragraphs, and each definition; those without words at the end. Of a file that isn't to
+    be believed, the definitions that are used."""
     yield f"\n#### `{specs.crate}/specs/{specs.name}.antt`\n"
-    for paragraph in (specs.subject(), *specs.paragraphs):
+    for paragraph in (specs.subject(), *specs.paragraphs) if specs.is_believed() else ("Of this file alone what others here use.",):
         yield f"\n{paragraph}\n"
     in_list, alone = False, []
-    for item in specs.items:
+    for item in specs.items if specs.is_believed() else used:
         if isinstance(item, str):
             yield f"\n*{item}*\n"
             in_list = False
@@ -375,6 +399,18 @@ def types_of(crate, house):
             cases = CASE.findall(found[3] or "") if found[2] == "enum" else []
             said = [f"`{case}`: {first_paragraph(words)}" for words, case in cases if words]
             yield name, first_paragraph(found[1]) + (f" Of its cases: {' '.join(said)}" if said else "")
+
+
+def constants_of(crate, house, read_by):
+    """The constants of a crate's code that these definitions read, each with its value, if that is one short line, and what is said of it."""
+    used = {house.specs[of, file].constants.get(word.split(".")[0]) for (of, file, _), read_in in read_by.items() for word in read_in.words()}
+    for _, module, name in sorted(constant for constant in used if constant and constant[0] == crate):
+        path = f"src/{module.replace('.', '/')}.rt"
+        found = re.search(CONSTANT % name, read(f"crates/{crate}/{path}"), re.MULTILINE)
+        if found is None:
+            raise Wrong(f"docs/definitions.py: no constant {name} in crates/{crate}/{path}")
+        value = f"`{found[2]}`" if found[2] and len(found[2]) <= LONGEST_BODY else f"to be read in `{path}`"
+        yield name, ": ".join(words for words in (value, first_paragraph(found[1])) if words)
 
 
 def first_paragraph(comment):
@@ -415,19 +451,28 @@ def definitions(house):
     yield "\n## How much a promise needs\n\n"
     yield from needs(house)
     needed = house.used_by(root for _, roots in TO_BELIEVE for root in roots)
-    yield f"\nAll these together need {len(needed)} definitions, which stand out below.\n"
+    yield f"\nAll but the last together need {len(needed)} definitions, which stand out below.\n"
+    believed = house.believed()
+    used = {}  # of each file that isn't to be believed, what those that are use of it
+    for (of, file, _), definition in believed.items():
+        if not house.specs[of, file].is_believed():
+            used.setdefault((of, file), []).append(definition)
     yield "\n## The definitions, file by file\n"
     for crate in crates():
-        believed = [specs for (of, _), specs in house.specs.items() if of == crate and specs.is_believed()]
+        shown = [specs for (of, file), specs in house.specs.items() if of == crate and (specs.is_believed() or (of, file) in used)]
         empty = [function for function, of in functions if of == crate]
-        if not believed and not empty:
+        if not shown and not empty:
             continue
         yield f"\n### `{crate}`\n"
-        for specs in believed:
-            yield from definitions_of(specs, worked, needed)
+        for specs in shown:
+            of_it = [definition for definition in specs.definitions() if definition in used.get((specs.crate, specs.name), [])]
+            yield from definitions_of(specs, worked, needed, of_it)
         types = list(types_of(crate, house))
         if types:
             yield "\n#### Types of the code of which these speak\n\n" + "".join(f"- `{name}`: {words}\n" for name, words in types)
+        constants = list(constants_of(crate, house, believed))
+        if constants:
+            yield "\n#### Constants of the code that these read\n\n" + "".join(f"- `{name}`: {words}\n" for name, words in constants)
         for is_example, title in ((False, "Laws"), (True, "Examples, each clause of which is computed")):
             found = [function for function in empty if function.is_example == is_example]
             if found:
