@@ -2,7 +2,7 @@
 use Rattle.std.proofs.Common.{◌≡◌, ◌⊎◌, inl, inr, ◌&&◌, ◌||◌, Bool, true, false, not, List, [], ◌∷◌, ◌++◌, Option, None, Some, is_some, refl, sym, ap, ◌∙◌, ℕ, arith, subst}
 use Rattle.s66_isa.specs.{every, some_of, BLOCK_LIMIT}
 use Rattle.s66_model.specs.{Rule, NoneNamed, WrittenEarlier, ClampedStanding, Tree, flat, Ending}
-use Rattle.s66_moments.specs.{FactStep, supposes}
+use Rattle.s66_moments.specs.{FactStep, is_of_supposition}
 use Rattle.s66_cert.specs.{Version, BoundsAlone, EarlierNodes, StandingNodes, FactLines, Suppositions, has_suppositions, version, version_rule, has_facts, may_suppose, AreFacts, HasItsLeaves}
 use Rattle.s66_cert.specs.{LacksSupposition, MayHead, AreOfVersion, first_facts, is_step_of}
 use Rattle.s66_cert.proofs.DominatedLines.{AreAllowed, leaves-allowed, leaves-any, facts-fit, first-some, first-fit}
@@ -19,14 +19,14 @@ version-is Suppositions rule None is none = absurd (let clash = is.some in (cc))
 version-is BoundsAlone rule (Some steps) is none = absurd (let clash = is.some in (cc))
 version-is EarlierNodes rule (Some steps) is none = absurd (let clash = is.some in (cc))
 version-is StandingNodes rule (Some steps) is none = absurd (let clash = is.some in (cc))
-version-is FactLines rule (Some steps) is none = by (some_of supposes steps) refl
+version-is FactLines rule (Some steps) is none = by (some_of is_of_supposition steps) refl
   where
-    by : (has : Bool) → some_of supposes steps ≡ has → version (Some steps) rule ≡ FactLines
+    by : (has : Bool) → some_of is_of_supposition steps ≡ has → version (Some steps) rule ≡ FactLines
     by true e = absurd (let clash = is.supposed e in (cc))
     by false e = rw e refl
-version-is Suppositions rule (Some steps) is none = by (some_of supposes steps) refl
+version-is Suppositions rule (Some steps) is none = by (some_of is_of_supposition steps) refl
   where
-    by : (has : Bool) → some_of supposes steps ≡ has → version (Some steps) rule ≡ Suppositions
+    by : (has : Bool) → some_of is_of_supposition steps ≡ has → version (Some steps) rule ≡ Suppositions
     by true e = rw e refl
     by false e = absurd (let clash = ap not (sym e) ∙ none in (cc))
 
@@ -36,9 +36,9 @@ lacking EarlierNodes rule facts is lacks = absurd (cc)
 lacking StandingNodes rule facts is lacks = absurd (cc)
 lacking FactLines rule facts is lacks = absurd (cc)
 lacking Suppositions rule None is lacks = absurd (let clash = is.some in (cc))
-lacking Suppositions rule (Some steps) is lacks = by (some_of supposes steps) refl
+lacking Suppositions rule (Some steps) is lacks = by (some_of is_of_supposition steps) refl
   where
-    by : (has : Bool) → some_of supposes steps ≡ has → LacksSupposition (version (Some steps) rule) Suppositions
+    by : (has : Bool) → some_of is_of_supposition steps ≡ has → LacksSupposition (version (Some steps) rule) Suppositions
     by true e = absurd (let clash = ap not (sym e) ∙ lacks in (cc))
     by false e = (rw e refl, refl)
 
@@ -82,32 +82,32 @@ anew-fit v rule facts is = record {
 }
 
 -- with one line more that may come
-pub supposed-more : (may : Bool) (steps : List FactStep) (step : FactStep) → (some_of supposes steps ≡ true → may ≡ true) → (may || not (supposes step)) ≡ true → some_of supposes (steps ++ step ∷ []) ≡ true → may ≡ true
+pub supposed-more : (may : Bool) (steps : List FactStep) (step : FactStep) → (some_of is_of_supposition steps ≡ true → may ≡ true) → (may || not (is_of_supposition step)) ≡ true → some_of is_of_supposition (steps ++ step ∷ []) ≡ true → may ≡ true
 supposed-more true steps step known is has = refl
-supposed-more false [] step known is has = by (supposes step) is has
+supposed-more false [] step known is has = by (is_of_supposition step) is has
   where
     by : (b : Bool) → not b ≡ true → (b || false) ≡ true → false ≡ true
     by true is has = absurd (cc)
     by false is has = has
-supposed-more false (other ∷ steps) step known is has = by (supposes other) known has (λ known has. supposed-more false steps step known is has)
+supposed-more false (other ∷ steps) step known is has = by (is_of_supposition other) known has (λ known has. supposed-more false steps step known is has)
   where
-    by : (b : Bool) → ((b || some_of supposes steps) ≡ true → false ≡ true) → (b || some_of supposes (steps ++ step ∷ [])) ≡ true →
-        ((some_of supposes steps ≡ true → false ≡ true) → some_of supposes (steps ++ step ∷ []) ≡ true → false ≡ true) → false ≡ true
+    by : (b : Bool) → ((b || some_of is_of_supposition steps) ≡ true → false ≡ true) → (b || some_of is_of_supposition (steps ++ step ∷ [])) ≡ true →
+        ((some_of is_of_supposition steps ≡ true → false ≡ true) → some_of is_of_supposition (steps ++ step ∷ []) ≡ true → false ≡ true) → false ≡ true
     by true known has more = known refl
     by false known has more = more known has
 
 -- each line may come
-pub steps-allowed : (v : Version) (steps : List FactStep) → (some_of supposes steps ≡ true → may_suppose v ≡ true) → every (is_step_of v) steps ≡ true
+pub steps-allowed : (v : Version) (steps : List FactStep) → (some_of is_of_supposition steps ≡ true → may_suppose v ≡ true) → every (is_step_of v) steps ≡ true
 steps-allowed v steps known = by (may_suppose v) steps known
   where
-    by : (may : Bool) (steps : List FactStep) → (some_of supposes steps ≡ true → may ≡ true) → every (λ step. may || not (supposes step)) steps ≡ true
+    by : (may : Bool) (steps : List FactStep) → (some_of is_of_supposition steps ≡ true → may ≡ true) → every (λ step. may || not (is_of_supposition step)) steps ≡ true
     by true [] known = refl
     by true (step ∷ steps) known = by true steps (λ has. refl)
     by false [] known = refl
-    by false (step ∷ steps) known = next (supposes step) known (λ has. by false steps has)
+    by false (step ∷ steps) known = next (is_of_supposition step) known (λ has. by false steps has)
       where
-        next : (b : Bool) → ((b || some_of supposes steps) ≡ true → false ≡ true) → ((some_of supposes steps ≡ true → false ≡ true) → every (λ step. false || not (supposes step)) steps ≡ true) →
-            (not b && every (λ step. false || not (supposes step)) steps) ≡ true
+        next : (b : Bool) → ((b || some_of is_of_supposition steps) ≡ true → false ≡ true) → ((some_of is_of_supposition steps ≡ true → false ≡ true) → every (λ step. false || not (is_of_supposition step)) steps ≡ true) →
+            (not b && every (λ step. false || not (is_of_supposition step)) steps) ≡ true
         next true known more = absurd (let clash = known refl in (cc))
         next false known more = more known
 
@@ -124,9 +124,9 @@ pub own-rule : (limit : ℕ) (rule : Rule) (facts : Option (List FactStep)) → 
 own-rule limit NoneNamed None are = refl
 own-rule limit WrittenEarlier None are = refl
 own-rule limit ClampedStanding None are = refl
-own-rule limit rule (Some steps) are = by (some_of supposes steps) refl
+own-rule limit rule (Some steps) are = by (some_of is_of_supposition steps) refl
   where
-    by : (has : Bool) → some_of supposes steps ≡ has → version_rule (version (Some steps) rule) ≡ rule
+    by : (has : Bool) → some_of is_of_supposition steps ≡ has → version_rule (version (Some steps) rule) ≡ rule
     by true e = rw e (sym are.0)
     by false e = rw e (sym are.0)
 
@@ -134,9 +134,9 @@ own-some : (rule : Rule) (facts : Option (List FactStep)) → is_some facts ≡ 
 own-some NoneNamed None = refl
 own-some WrittenEarlier None = refl
 own-some ClampedStanding None = refl
-own-some rule (Some steps) = by (some_of supposes steps) refl
+own-some rule (Some steps) = by (some_of is_of_supposition steps) refl
   where
-    by : (has : Bool) → some_of supposes steps ≡ has → true ≡ has_facts (version (Some steps) rule)
+    by : (has : Bool) → some_of is_of_supposition steps ≡ has → true ≡ has_facts (version (Some steps) rule)
     by true e = rw e refl
     by false e = rw e refl
 
@@ -144,9 +144,9 @@ own-supposed : (rule : Rule) (facts : Option (List FactStep)) → may_suppose (v
 own-supposed NoneNamed None = refl
 own-supposed WrittenEarlier None = refl
 own-supposed ClampedStanding None = refl
-own-supposed rule (Some steps) = by (some_of supposes steps) refl
+own-supposed rule (Some steps) = by (some_of is_of_supposition steps) refl
   where
-    by : (has : Bool) → some_of supposes steps ≡ has → may_suppose (version (Some steps) rule) ≡ has_suppositions (Some steps)
+    by : (has : Bool) → some_of is_of_supposition steps ≡ has → may_suppose (version (Some steps) rule) ≡ has_suppositions (Some steps)
     by true e = rw e refl
     by false e = rw e refl
 
@@ -170,9 +170,9 @@ read-plain limit v NoneNamed None tree own (inl e) leaves = record { some = rw e
 read-plain limit v NoneNamed None tree own (inr e) leaves = record { some = rw e refl; supposed = λ has. absurd (cc); leaves = (leaves-any limit (version_rule v) None tree tt leaves).1 }
 read-plain limit v WrittenEarlier None tree own lacks leaves = absurd (cc)
 read-plain limit v ClampedStanding None tree own lacks leaves = absurd (cc)
-read-plain limit v rule (Some steps) tree own lacks leaves = absurd (by (some_of supposes steps) refl)
+read-plain limit v rule (Some steps) tree own lacks leaves = absurd (by (some_of is_of_supposition steps) refl)
   where
-    by : (has : Bool) → some_of supposes steps ≡ has → ⊥
+    by : (has : Bool) → some_of is_of_supposition steps ≡ has → ⊥
     by true e =
         let same : version (Some steps) rule ≡ Suppositions = rw e refl in
         let clash = sym same ∙ own in

@@ -3,7 +3,7 @@ use Rattle.std.specs.Prelude.{◌+◌, ◌-◌, ◌==◌, ◌&&◌, ◌||◌, if
 use Rattle.std.specs.Prelude.{option_map}
 use Rattle.s66_isa.specs.{BLOCK_LIMIT}
 use Rattle.s66_model.specs.{NoneNamed, Vertex, AtTerminal, AtSplit, Ending, Bounding, Dominated, Factual, has_dominated_line}
-use Rattle.s66_moments.specs.{FactStep, supposes}
+use Rattle.s66_moments.specs.{FactStep, is_of_supposition}
 use Rattle.s66_cert.specs.Documents.{Document, names_nodes}
 use Rattle.s66_cert.specs.Lines.{DocumentLine, Header, Profile, Block, Instruction, Time, Bound, Order, OfFact, OfTree, End, line_read}
 use Rattle.s66_cert.specs.DocumentParts.{Parts, document_of}
@@ -96,7 +96,7 @@ takes_fact p = length p.vertices == 0 && has_room p.facts
 
 -- suppositions come in their version alone
 abbrev pub is_step_of : Version → FactStep → Bool
-is_step_of version step = may_suppose version || not (supposes step)
+is_step_of version step = may_suppose version || not (is_of_supposition step)
 
 abbrev pub takes_step : Version → Parts → FactStep → Bool
 takes_step version p step = takes_fact p && is_step_of version step

@@ -2,20 +2,20 @@
 use Rattle.std.specs.Prelude.{ℕ, if◌then◌else◌, Bool, true, false, List, Option, None, Some}
 use Rattle.s66_isa.specs.{some_of}
 use Rattle.s66_model.specs.{Rule, NoneNamed, WrittenEarlier, ClampedStanding}
-use Rattle.s66_moments.specs.{FactStep, supposes}
+use Rattle.s66_moments.specs.{FactStep, is_of_supposition}
 use Rattle.s66_cert.specs.declared.version.Version.{Version}
 use Rattle.s66_cert.specs.declared.version.Version.TheVariants.{BoundsAlone, EarlierNodes, StandingNodes, FactLines, Suppositions}
 
 abbrev pub has_suppositions : Option (List FactStep) → Bool
 has_suppositions None = false
-has_suppositions (Some steps) = some_of supposes steps
+has_suppositions (Some steps) = some_of is_of_supposition steps
 
 -- of a document of such fact lines, if it may have some, by a rule
 abbrev pub version : Option (List FactStep) → Rule → Version
 version None NoneNamed = BoundsAlone
 version None WrittenEarlier = EarlierNodes
 version None ClampedStanding = StandingNodes
-version (Some steps) rule = if some_of supposes steps then Suppositions else FactLines
+version (Some steps) rule = if some_of is_of_supposition steps then Suppositions else FactLines
 
 abbrev pub version_number : Version → ℕ
 version_number BoundsAlone = 1

@@ -170,7 +170,7 @@ impl Reader {
     fn takes_step(&self, step: &FactStep) -> bool
         ensures { result ≡ takes_step self.now.version self.now.claim step.now }
     {
-        self.takes_fact() && (self.version.may_suppose() || !step.supposes())
+        self.takes_fact() && (self.version.may_suppose() || !step.is_of_supposition())
     }
 
     /// Reads a fact line, or one of a supposition, if it may come.

@@ -2,7 +2,7 @@
 
 ghost use Rattle.std.specs.Prelude.{◌≡◌, option_map};
 ghost use Rattle.s66_isa.specs.{some_of};
-ghost use Rattle.s66_moments.specs.{supposes};
+ghost use Rattle.s66_moments.specs.{is_of_supposition};
 ghost use Rattle.s66_cert.specs.{has_suppositions, version, version_number, version_rule, has_facts, may_suppose};
 
 use s66_model::Rule;
@@ -25,10 +25,10 @@ pub(crate) enum Version {
 
 /// Whether one of the lines begins or ends a supposition.
 fn some_supposes(steps: &[FactStep]) -> bool
-    ensures { result ≡ some_of supposes steps.now }
+    ensures { result ≡ some_of is_of_supposition steps.now }
 {
     for step in steps {
-        if step.supposes() {
+        if step.is_of_supposition() {
             return true;
         }
     }

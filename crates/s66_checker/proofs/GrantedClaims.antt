@@ -5,7 +5,7 @@ use Rattle.std.proofs.lemmas.Bool.{not-false, not_from_true, or_parts}
 use Rattle.s66_isa.specs.{Among, some_of}
 use Rattle.s66_model.specs.{Problem, total_of, IsLegal, IsBeginning, ClampedStanding, IsBound, Vertex, AtTerminal, flat, Ending, EndingShows}
 use Rattle.s66_model.proofs.DominatedTrees.{shown-below}
-use Rattle.s66_moments.specs.{FactStep, ShowsByLines, standing_first, shown_by_all}
+use Rattle.s66_moments.specs.{FactStep, ShowsByLines, premises_first, shown_by_all}
 use Rattle.s66_moments.proofs.ClosedTrees.{lines-below}
 use Rattle.s66_cert.specs.{Document, IsDocument, AreFacts, HasItsLeaves, is_factual, tree_placed}
 use Rattle.s66_checker.specs.declared.verdict.Verdict.{Verdict}
@@ -41,7 +41,7 @@ pub granted : (d : Document) (time bound : ℕ) → (verdict d ≡ Yes time boun
 granted d time bound =
     let b : Problem = problem_of d in
     let tree : Verdict = lines_verdict d (tree_line_number d) (tree_placed [] d.tree) in
-    let lines : Verdict = facts_verdict d (fact_line_number d) 0 (standing_first b) (facts_of d) tree in
+    let lines : Verdict = facts_verdict d (fact_line_number d) 0 (premises_first b) (facts_of d) tree in
     let high : Bool = nat_lt d.time d.bound in
     let times : Bool = total_of b d.numbers == d.time in
     let legal : Bool = is_legal_order b.block d.numbers in
@@ -50,7 +50,7 @@ granted d time bound =
     let order = passed (not legal) (No (order_line_number d) fault.Order) after_order (Yes time bound) (λ h. (cc)) in
     let total = passed (not times) (No (time_line_number d) fault.Time) after_time (Yes time bound) (λ h. (cc)) in
     let within = passed high (No (bound_line_number d) fault.Bound) lines (Yes time bound) (λ h. (cc)) in
-    let facts = facts-yes d (facts_of d) (fact_line_number d) 0 (standing_first b) tree time bound in
+    let facts = facts-yes d (facts_of d) (fact_line_number d) 0 (premises_first b) tree time bound in
     let stated = lines-yes d (tree_placed [] d.tree) (tree_line_number d) time bound in
     let is_legal = is_legal_order-Decides b.block d.numbers in (
       (λ h. (let one = order.0 h in
@@ -120,7 +120,7 @@ lines-shown : (limit : ℕ) (d : Document) (steps : List FactStep) → IsDocumen
 lines-shown limit d steps is some at =
     let b : Problem = problem_of d in
     let facts : AreFacts limit d.rule (Some steps) = subst (AreFacts limit d.rule) some is.facts in
-    subst (λ f. ShowsByLines ClampedStanding b d.bound (shown_by_all b (standing_first b) (unwrap_or f [])) [] (line_tree d)) some
+    subst (λ f. ShowsByLines ClampedStanding b d.bound (shown_by_all b (premises_first b) (unwrap_or f [])) [] (line_tree d)) some
     (shown-by_lines d facts.0 at.facts
     ((tree-shows d (λ ending. Unit {0}) (λ at ending. IsBeginning b.block at × (line_fault d at (AtTerminal ending) ≡ None)) (λ at ending may begins. ((λ h. (begins, h)), λ h. h.1)) limit d.tree is.tree (λ ending among. tt)).0 at.lines))
 
@@ -141,4 +141,4 @@ claim-bound d claim order legal = below d.facts claim.tree
     below : (facts : Option (List FactStep)) → IsShown d facts → d.bound ≤ total_of (problem_of d) order
     below None shown = shown-below d.rule (problem_of d) d.bound [] order d.tree shown legal
     below (Some steps) shown =
-        lines-below ClampedStanding (problem_of d) d.bound (shown_by_all (problem_of d) (standing_first (problem_of d)) steps) [] order (line_tree d) shown legal
+        lines-below ClampedStanding (problem_of d) d.bound (shown_by_all (problem_of d) (premises_first (problem_of d)) steps) [] order (line_tree d) shown legal

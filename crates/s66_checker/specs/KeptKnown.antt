@@ -2,13 +2,13 @@
 use Rattle.std.specs.Prelude.{ℕ, ◌≡◌, ◌+◌, ◌||◌, Bool, true, false, Option, None, Some, List, [], ◌∷◌, nat_le}
 use Rattle.s66_isa.specs.{Write}
 use Rattle.s66_model.specs.{Point, done_at}
-use Rattle.s66_moments.specs.{Moment, End, IsNumber, is_moment, tail, span, arcs_of, standing_first, are_steps_taken}
+use Rattle.s66_moments.specs.{Moment, End, IsNumber, is_moment, tail, span, arcs_of, premises_first, are_steps_taken}
 use Rattle.s66_facts.specs.{Times, AreTimes, times_at, Ground, known_of as known_in}
 use Rattle.s66_cert.specs.{Document}
 use Rattle.s66_checker.specs.declared.verdict.Verdict.{Verdict}
 use Rattle.s66_checker.specs.declared.verdict.Verdict.TheVariants.{No}
 use Rattle.s66_checker.specs.declared.verdict.Reason.TheVariants as fault
-use Rattle.s66_checker.specs.Verdict.{problem_of, facts_of, standing_of, known_of, fact_line_number, facts_verdict}
+use Rattle.s66_checker.specs.Verdict.{problem_of, facts_of, premises_of, known_of, fact_line_number, facts_verdict}
 
 -- all that is known of its block after its fact lines
 pub record KnowsAll (d : Document) (g : Ground) : Type 0 where
@@ -17,13 +17,13 @@ pub record KnowsAll (d : Document) (g : Ground) : Type 0 where
 
 -- each of its fact lines is taken, and no supposition is left open
 pub record AreTaken (d : Document) : Type 0 where
-  pub each : are_steps_taken (problem_of d) d.bound (standing_first (problem_of d)) (facts_of d) ≡ true
-  pub closed : (standing_of d).supposed ≡ None
+  pub each : are_steps_taken (problem_of d) d.bound (premises_first (problem_of d)) (facts_of d) ≡ true
+  pub closed : (premises_of d).supposed ≡ None
 
 -- the line of this number is the first that isn't; or all are, and on this one the supposition began that is open
 abbrev pub IsUntaken : Document → ℕ → Type 0
 IsUntaken d line =
-    (later : Verdict) → facts_verdict d (fact_line_number d) 0 (standing_first (problem_of d)) (facts_of d) later ≡ No line fault.Fact
+    (later : Verdict) → facts_verdict d (fact_line_number d) 0 (premises_first (problem_of d)) (facts_of d) later ≡ No line fault.Fact
 
 -- the longest path from each moment to the end is what follows it
 abbrev pub HasTails : Ground → Type 0

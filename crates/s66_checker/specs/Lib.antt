@@ -14,7 +14,7 @@ pub use Dominating.{are_results_no_later, are_operands_no_later, is_reader_no_la
 pub use KeptPrefix.{TOTAL_LIMIT, with_profile, AreTimed, AreNeeds, IsPrefix}
 pub use PastWords.{AreFree, never_busy, AreWords, ArePast}
 pub use Reasons.{number_of}
-pub use Verdict.{verdict, problem_of, is_legal_order, facts_of, standing_of, known_of, time_line_number, bound_line_number, order_line_number, fact_line_number, tree_line_number, node_on, is_complete}
+pub use Verdict.{verdict, problem_of, is_legal_order, facts_of, premises_of, known_of, time_line_number, bound_line_number, order_line_number, fact_line_number, tree_line_number, node_on, is_complete}
 pub use Verdict.{is_at_its_place, is_walk, has_links, leaf_fault, is_early_enough, is_name, dominated_fault, is_name_at, name_of, at_line_fault, next_fault, turned_fault, load_from_fault, line_fault}
 pub use Verdict.{unless, lines_verdict, begun_by, facts_verdict, proof_verdict}
 pub use TrueClaims.{line_ending, line_tree, IsShown, IsTrueClaim}

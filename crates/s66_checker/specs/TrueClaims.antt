@@ -1,7 +1,7 @@
 -- To be believed: when what a document claims is true.
 use Rattle.std.specs.Prelude.{◌≡◌, ◌≤◌, List, [], ◌∷◌, Option, None, Some}
 use Rattle.s66_model.specs.{ClampedStanding, total_of, IsLegal, Tree, tree_seen, Ending, Bounding, Dominated, Factual, ShowsBy, Next, Turned, AtLine, LoadFrom}
-use Rattle.s66_moments.specs.{FactStep, load_of, standing_first, shown_by_all, LineEnding, AtLeaf, AtLines, DominatedBy, ShowsByLines}
+use Rattle.s66_moments.specs.{FactStep, load_of, premises_first, shown_by_all, LineEnding, AtLeaf, AtLines, DominatedBy, ShowsByLines}
 use Rattle.s66_cert.specs.{Document}
 use Rattle.s66_checker.specs.Verdict.{problem_of, node_on, name_of}
 
@@ -28,7 +28,7 @@ line_tree d = tree_seen (λ at. line_ending d) [] d.tree
 abbrev pub IsShown : Document → Option (List FactStep) → Type 0
 IsShown d None = ShowsBy d.rule (problem_of d) d.bound [] d.tree
 IsShown d (Some steps) =
-    ShowsByLines ClampedStanding (problem_of d) d.bound (shown_by_all (problem_of d) (standing_first (problem_of d)) steps) [] (line_tree d)
+    ShowsByLines ClampedStanding (problem_of d) d.bound (shown_by_all (problem_of d) (premises_first (problem_of d)) steps) [] (line_tree d)
 
 -- under its own profile its order is legal and takes its time, its bound isn't above the time, and its tree shows it
 pub record IsTrueClaim (d : Document) : Type 0 where

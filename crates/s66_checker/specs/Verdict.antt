@@ -4,7 +4,7 @@ use Rattle.std.specs.Prelude.{bytes_eq}
 use Rattle.s66_isa.specs.{Instr, profile_of}
 use Rattle.s66_model.specs.{Rule, NoneNamed, WrittenEarlier, ClampedStanding, Problem, total_of, is_remaining, ready, Leaf, Whole, Chain, Load, Parcels, value, is_linked, Vertex, AtTerminal, AtSplit}
 use Rattle.s66_model.specs.{node_named, Ending, Bounding, Dominated, Factual, is_standing, may_be_named, Next, Turned, AtLine, LoadFrom}
-use Rattle.s66_moments.specs.{FactStep, Known, next_value, is_turned, is_loaded, Standing, begins, standing_first, with_step, standing_after, is_step_taken}
+use Rattle.s66_moments.specs.{FactStep, Known, next_value, is_turned, is_loaded, Premises, begins_supposition, premises_first, with_step, premises_after, is_step_taken}
 use Rattle.s66_line.specs.{instr_in_text}
 use Rattle.s66_cert.specs.{Document, tree_placed}
 use Rattle.s66_checker.specs.declared.verdict.Verdict.{Verdict}
@@ -31,11 +31,11 @@ abbrev pub facts_of : Document → List FactStep
 facts_of d = unwrap_or d.facts []
 
 -- what is known after all of them, and the supposition that is open
-abbrev pub standing_of : Document → Standing
-standing_of d = standing_after (standing_first (problem_of d)) (facts_of d)
+abbrev pub premises_of : Document → Premises
+premises_of d = premises_after (premises_first (problem_of d)) (facts_of d)
 
 abbrev pub known_of : Document → Known
-known_of d = (standing_of d).known
+known_of d = (premises_of d).known
 
 -- THE NUMBERS OF ITS LINES, from 1: a header, PROFILE, BLOCK, the instructions, TIME, BOUND, ORDER, the fact lines, and then the tree
 
@@ -178,19 +178,19 @@ lines_verdict d line (at ∷ later) = unless line (line_fault d at.0 at.1) (line
 
 -- the line on which the last supposition began, if this line has this step
 abbrev pub begun_by : (line begun : ℕ) → FactStep → ℕ
-begun_by line begun step = if begins step then line else begun
+begun_by line begun step = if begins_supposition step then line else begun
 
 -- of these fact lines, by what is known before them, and then of what comes later; a supposition that doesn't end is a fault where it began
-abbrev pub facts_verdict : Document → (line begun : ℕ) → Standing → List FactStep → Verdict → Verdict
-facts_verdict d line begun standing [] later = if is_some standing.supposed then No begun fault.Fact else later
-facts_verdict d line begun standing (step ∷ steps) later =
-    if is_step_taken (problem_of d) d.bound standing step then facts_verdict d (suc line) (begun_by line begun step) (with_step standing step) steps later
+abbrev pub facts_verdict : Document → (line begun : ℕ) → Premises → List FactStep → Verdict → Verdict
+facts_verdict d line begun premises [] later = if is_some premises.supposed then No begun fault.Fact else later
+facts_verdict d line begun premises (step ∷ steps) later =
+    if is_step_taken (problem_of d) d.bound premises step then facts_verdict d (suc line) (begun_by line begun step) (with_step premises step) steps later
     else No line fault.Fact
 
 -- the fact lines one by one, and then the tree line by line
 abbrev pub proof_verdict : Document → Verdict
 proof_verdict d =
-    facts_verdict d (fact_line_number d) 0 (standing_first (problem_of d)) (facts_of d)
+    facts_verdict d (fact_line_number d) 0 (premises_first (problem_of d)) (facts_of d)
     (lines_verdict d (tree_line_number d) (tree_placed [] d.tree))
 
 -- first the order, the time and the bound, and then what shows it; the fact lines one by one, each by what is known before it, and then

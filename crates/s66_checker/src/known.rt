@@ -4,8 +4,8 @@
 ghost use Rattle.std.specs.Prelude.{◌≡◌, ◌≤◌, IfSome, IfNone, length, ◌&&◌, IfOk, IfErr, OnOk, Some, nat_le, true};
 ghost use Rattle.s66_isa.specs.{BLOCK_LIMIT};
 ghost use Rattle.s66_model.specs.{is_remaining};
-ghost use Rattle.s66_moments.specs.{standing_first, Issue, Start, At, tail, arcs_of, next_value, is_turned};
-ghost use Rattle.s66_facts.specs.{known_of as known_in, standing_in};
+ghost use Rattle.s66_moments.specs.{premises_first, Issue, Start, At, tail, arcs_of, next_value, is_turned};
+ghost use Rattle.s66_facts.specs.{known_of as known_in, premises_in};
 ghost use Rattle.s66_cert.specs.{document_of, FACT_LIMIT};
 ghost use Rattle.s66_checker.specs.{problem_of, facts_of, begun_by, KnowsAll, AreTaken, IsUntaken, is_reached, is_result_late, is_point_late};
 
@@ -30,14 +30,18 @@ pub fn fact_lines(document: &Document) -> &[FactStep]
 fn begun_by(line: u32, begun: u32, step: &FactStep) -> u32
     ensures { result ≡ begun_by line begun step.now }
 {
-    if step.begins() { line } else { begun }
+    if step.begins_supposition() {
+        line
+    } else {
+        begun
+    }
 }
 
 /// Takes the fact lines of a document one after the other, and stops at the first that isn't shown by what is known before it. Returns
 /// its number in the document, or that of the supposition that doesn't end, if there is one.
 fn first_untaken(document: &Document, supposing: &mut Supposing) -> Option<u32>
     requires problem { supposing.old.ground.problem ≡ problem_of (document_of document.now) }
-    requires first { standing_in supposing.old ≡ standing_first supposing.old.ground.problem }
+    requires first { premises_in supposing.old ≡ premises_first supposing.old.ground.problem }
     requires steps { supposing.old.steps ≡ 0 }
     ensures untaken { IfSome result (λ line. IsUntaken (document_of document.now) line) }
     ensures taken { IfNone result (AreTaken (document_of document.now)) }

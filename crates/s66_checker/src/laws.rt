@@ -2,7 +2,7 @@
 
 ghost use Rattle.std.specs.Prelude.{ℕ, List, [], ◌≡◌, ◌↔◌, true, false, None};
 ghost use Rattle.s66_model.specs.{NoneNamed, WrittenEarlier, ClampedStanding, Problem, HaveDigits, Dominates, DominatesClamped, IsBound};
-ghost use Rattle.s66_moments.specs.{FactStep, facts_after, DominatesInUse, Known, standing_first, standing_after, are_steps_taken, shown_by_all};
+ghost use Rattle.s66_moments.specs.{FactStep, facts_after, DominatesInUse, Known, premises_first, premises_after, are_steps_taken, shown_by_all};
 ghost use Rattle.s66_cert.specs.{Document, IsDocument};
 ghost use Rattle.s66_checker.specs.{Yes, verdict, problem_of, dominates_by, dominates_in_use, IsTrueClaim};
 
@@ -25,10 +25,10 @@ pub fn dominating_law()
     ensures clamped { (b : Problem) (name at : List ℕ) → HaveDigits b.block →
         (dominates_by ClampedStanding b name at ≡ true) ↔ DominatesClamped b name at }
     ensures in_use { (b : Problem) (bound : ℕ) (steps : List FactStep) (name at : List ℕ) →
-        are_steps_taken b bound (standing_first b) steps ≡ true →
-        (standing_after (standing_first b) steps).supposed ≡ None →
-        dominates_in_use b bound (standing_after (standing_first b) steps).known name at ≡ true →
-        DominatesInUse b bound (facts_after [] (shown_by_all b (standing_first b) steps)) name at }
+        are_steps_taken b bound (premises_first b) steps ≡ true →
+        (premises_after (premises_first b) steps).supposed ≡ None →
+        dominates_in_use b bound (premises_after (premises_first b) steps).known name at ≡ true →
+        DominatesInUse b bound (facts_after [] (shown_by_all b (premises_first b) steps)) name at }
     ensures clamped_in_use { (b : Problem) (bound : ℕ) (known : Known) (name at : List ℕ) → DominatesClamped b name at →
         dominates_in_use b bound known name at ≡ true }
     ensures none_named { (b : Problem) (name at : List ℕ) → dominates_by NoneNamed b name at ≡ false }

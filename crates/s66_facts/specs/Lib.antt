@@ -15,7 +15,7 @@ pub use Chained.{number_of, no_arc, along, is_as_long, HasAsLong, IsFalling, IsP
 pub use Near.{uses, hands_on, covers, IsCovered, IsNear, AreNear}
 pub use Directions.{source, can_begin, arc_start, arc_end, sooner, rank, arcs_along, span_along}
 pub use Settled.{AreAll, IsStep, AreSettled, IsReady, IsMarkedUpTo, keeps, nth_number}
-pub use Supposing.{Grounds, standing_in, IsSupposition, MayBeOpen}
+pub use Supposing.{Grounds, premises_in, IsSupposition, MayBeOpen}
 pub use declared.direction.Direction.{Direction}
 pub use declared.direction.Direction.TheVariants.{Backward, Forward}
 pub use declared.limits.TheConstants.{FACT_LIMIT}

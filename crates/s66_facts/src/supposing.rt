@@ -38,15 +38,15 @@ impl Model for Supposing {
 }
 
 impl Supposing {
-    ghost use Rattle.s66_moments.specs.{is_taken, standing_first, with_step, may_be_supposed, is_late, is_step_taken};
+    ghost use Rattle.s66_moments.specs.{is_taken, premises_first, with_step, may_be_supposed, is_late, is_step_taken};
     ghost use Rattle.s66_moments.specs.declared.fact_line.FactStep.TheVariants.{Fact, Suppose, Refuted};
-    ghost use Rattle.s66_facts.specs.{known_of, standing_in};
+    ghost use Rattle.s66_facts.specs.{known_of, premises_in};
 
     /// What is known of a block under a profile before the first step.
     pub fn new(block: &[Instr], profile: &Profile) -> Supposing
         requires { length block.now ≤ BLOCK_LIMIT }
         ensures problem { result.ground.problem ≡ record { block = block.now; profile = profile.now } }
-        ensures standing { standing_in result ≡ standing_first result.ground.problem }
+        ensures premises { premises_in result ≡ premises_first result.ground.problem }
         ensures steps { result.steps ≡ 0 }
     {
         Supposing {
@@ -61,7 +61,7 @@ impl Supposing {
         requires room { self.old.steps < FACT_LIMIT }
         ensures taken { result ≡ is_taken self.old.ground.problem bound (known_of self.old.ground) line.now }
         ensures problem { self.new.ground.problem ≡ self.old.ground.problem }
-        ensures standing { IsTrue result → standing_in self.new ≡ with_step (standing_in self.old) (Fact line.now) }
+        ensures premises { IsTrue result → premises_in self.new ≡ with_step (premises_in self.old) (Fact line.now) }
         ensures steps { self.new.steps ≡ self.old.steps + 1 }
     {
         self.steps += 1;
@@ -89,7 +89,7 @@ impl Supposing {
         ensures taken { result ≡ (not (is_some self.old.supposed) &&
             may_be_supposed self.old.ground.problem (known_of self.old.ground) first second) }
         ensures problem { self.new.ground.problem ≡ self.old.ground.problem }
-        ensures standing { IsTrue result → standing_in self.new ≡ with_step (standing_in self.old)
+        ensures premises { IsTrue result → premises_in self.new ≡ with_step (premises_in self.old)
             (Suppose first second) }
         ensures steps { self.new.steps ≡ self.old.steps }
     {
@@ -112,7 +112,7 @@ impl Supposing {
         ensures taken { result ≡
             (is_some self.old.supposed && is_late self.old.ground.problem bound (known_of self.old.ground)) }
         ensures problem { self.new.ground.problem ≡ self.old.ground.problem }
-        ensures standing { IsTrue result → standing_in self.new ≡ with_step (standing_in self.old) Refuted }
+        ensures premises { IsTrue result → premises_in self.new ≡ with_step (premises_in self.old) Refuted }
         ensures steps { self.new.steps ≡ self.old.steps }
     {
         if !self.facts.is_late_for(bound) {
@@ -129,9 +129,9 @@ impl Supposing {
     /// Takes a step if it may be taken, and returns whether it may. A fact line has to be shown by what is known and supposed.
     pub fn take(&mut self, bound: u32, step: &FactStep) -> bool
         requires room { self.old.steps < FACT_LIMIT }
-        ensures taken { result ≡ is_step_taken self.old.ground.problem bound (standing_in self.old) step.now }
+        ensures taken { result ≡ is_step_taken self.old.ground.problem bound (premises_in self.old) step.now }
         ensures problem { self.new.ground.problem ≡ self.old.ground.problem }
-        ensures standing { IsTrue result → standing_in self.new ≡ with_step (standing_in self.old) step.now }
+        ensures premises { IsTrue result → premises_in self.new ≡ with_step (premises_in self.old) step.now }
         ensures steps { self.new.steps ≤ self.old.steps + 1 }
     {
         match step {

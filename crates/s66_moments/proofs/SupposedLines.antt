@@ -4,8 +4,8 @@ use Rattle.std.proofs.lemmas.Bool.{and_parts, or_cases, not-true, eqb-false}
 use Rattle.s66_isa.specs.{some_of, Among, numbers}
 use Rattle.s66_model.specs.{Problem}
 use Rattle.s66_moments.specs.{Stage, Issue, Start, Origin, At, End, FactLine, FactStep, Fact as SomeFact, Arc, Before, IsNumber, IsStep, Leads, same_moment, Line, fact_of, IsRefuted, AreFounded}
-use Rattle.s66_moments.specs.{facts_after, Known, line_of, is_number, is_taken, are_taken, known_after, with_line, plus, span, arcs_of, Supposition, Standing, standing_by, standing_first, with_step}
-use Rattle.s66_moments.specs.{standing_after, may_be_supposed, is_late_at, is_late_through, is_late_load, is_late, is_step_taken, are_steps_taken, shown_by, shown_by_all}
+use Rattle.s66_moments.specs.{facts_after, Known, line_of, is_number, is_taken, are_taken, known_after, with_line, plus, span, arcs_of, Supposition, Premises, premises_by, premises_first, with_step}
+use Rattle.s66_moments.specs.{premises_after, may_be_supposed, is_late_at, is_late_through, is_late_load, is_late, is_step_taken, are_steps_taken, shown_by, shown_by_all}
 use Rattle.s66_moments.specs.declared.fact_line.FactStep.TheVariants.{Fact, Suppose, Refuted}
 use Rattle.s66_moments.proofs.TableArcs.{and_three, and_five, some-found}
 use Rattle.s66_moments.proofs.MoreArcs.{same_moment-true}
@@ -52,10 +52,10 @@ module _ (b : Problem) (bound : ℕ) where
   GoesBack base facts (Some s) =
       IsSound b base s.outer × MaySuppose s.outer s.first s.second × (IsRefuted b bound facts → IsRefuted b bound (Before s.second s.first ∷ base))
 
-  pub record Stands (base : List SomeFact) (standing : Standing) : Type 0 where
+  pub record Stands (base : List SomeFact) (premises : Premises) : Type 0 where
     pub facts : List SomeFact
-    pub sound : IsSound b facts standing.known
-    pub goes_back : GoesBack base facts standing.supposed
+    pub sound : IsSound b facts premises.known
+    pub goes_back : GoesBack base facts premises.supposed
 
   -- TOO LATE
 
@@ -88,8 +88,8 @@ module _ (b : Problem) (bound : ℕ) where
 
   -- A STEP
 
-  abbrev Goes : (base : List SomeFact) → Standing → FactStep → Type 0
-  Goes base standing step = AreFounded b bound base (shown_by b standing step) × Stands (facts_after base (shown_by b standing step)) (with_step standing step)
+  abbrev Goes : (base : List SomeFact) → Premises → FactStep → Type 0
+  Goes base premises step = AreFounded b bound base (shown_by b premises step) × Stands (facts_after base (shown_by b premises step)) (with_step premises step)
 
   fact-goes : (base facts : List SomeFact) (known : Known) (supposed : Option Supposition) → IsSound b facts known → GoesBack base facts supposed → (line : FactLine) → is_taken b bound known line ≡ true →
       Goes base (record { known = known; supposed = supposed }) (Fact line)
@@ -131,46 +131,46 @@ module _ (b : Problem) (bound : ℕ) where
     },
   )
 
-  step-goes : (base : List SomeFact) (standing : Standing) (step : FactStep) → Stands base standing → is_step_taken b bound standing step ≡ true → Goes base standing step
-  step-goes base standing (Fact line) stands h = fact-goes base stands.facts standing.known standing.supposed stands.sound stands.goes_back line h
-  step-goes base standing (Suppose m n) stands h = suppose-goes base stands.facts standing.known standing.supposed stands.sound stands.goes_back m n h
-  step-goes base standing Refuted stands h = refuted-goes base stands.facts standing.known standing.supposed stands.sound stands.goes_back h
+  step-goes : (base : List SomeFact) (premises : Premises) (step : FactStep) → Stands base premises → is_step_taken b bound premises step ≡ true → Goes base premises step
+  step-goes base premises (Fact line) stands h = fact-goes base stands.facts premises.known premises.supposed stands.sound stands.goes_back line h
+  step-goes base premises (Suppose m n) stands h = suppose-goes base stands.facts premises.known premises.supposed stands.sound stands.goes_back m n h
+  step-goes base premises Refuted stands h = refuted-goes base stands.facts premises.known premises.supposed stands.sound stands.goes_back h
 
   -- ALL STEPS
 
-  steps-go : (base : List SomeFact) (standing : Standing) (steps : List FactStep) → Stands base standing → are_steps_taken b bound standing steps ≡ true →
-      AreFounded b bound base (shown_by_all b standing steps) × Stands (facts_after base (shown_by_all b standing steps)) (standing_after standing steps)
-  steps-go base standing [] stands h = (tt, stands)
-  steps-go base standing (step ∷ steps) stands h =
-      let (here, past) = and_parts (is_step_taken b bound standing step) _ h in
-      let lines : List Line = shown_by b standing step in
-      let more : List Line = shown_by_all b (with_step standing step) steps in
-      let (founded, then) = step-goes base standing step stands here in
-      let (founded2, last) = steps-go (facts_after base lines) (with_step standing step) steps then past in (
+  steps-go : (base : List SomeFact) (premises : Premises) (steps : List FactStep) → Stands base premises → are_steps_taken b bound premises steps ≡ true →
+      AreFounded b bound base (shown_by_all b premises steps) × Stands (facts_after base (shown_by_all b premises steps)) (premises_after premises steps)
+  steps-go base premises [] stands h = (tt, stands)
+  steps-go base premises (step ∷ steps) stands h =
+      let (here, past) = and_parts (is_step_taken b bound premises step) _ h in
+      let lines : List Line = shown_by b premises step in
+      let more : List Line = shown_by_all b (with_step premises step) steps in
+      let (founded, then) = step-goes base premises step stands here in
+      let (founded2, last) = steps-go (facts_after base lines) (with_step premises step) steps then past in (
         founded-append b bound base lines more founded founded2,
-        subst (λ fs. Stands fs (standing_after standing (step ∷ steps))) (sym (facts-append base lines more)) last,
+        subst (λ fs. Stands fs (premises_after premises (step ∷ steps))) (sym (facts-append base lines more)) last,
       )
 
-  pub after-stands : (steps : List FactStep) → are_steps_taken b bound (standing_first b) steps ≡ true →
-      AreFounded b bound [] (shown_by_all b (standing_first b) steps) × Stands (facts_after [] (shown_by_all b (standing_first b) steps)) (standing_after (standing_first b) steps)
-  after-stands steps h = steps-go [] (standing_first b) steps (record { facts = []; sound = first-sound b; goes_back = refl }) h
+  pub after-stands : (steps : List FactStep) → are_steps_taken b bound (premises_first b) steps ≡ true →
+      AreFounded b bound [] (shown_by_all b (premises_first b) steps) × Stands (facts_after [] (shown_by_all b (premises_first b) steps)) (premises_after (premises_first b) steps)
+  after-stands steps h = steps-go [] (premises_first b) steps (record { facts = []; sound = first-sound b; goes_back = refl }) h
 
   -- where no supposition is open, what is known is known of all orders
-  pub closed-sound : (base : List SomeFact) (standing : Standing) → Stands base standing → standing.supposed ≡ None → IsSound b base standing.known
-  closed-sound base standing stands none =
+  pub closed-sound : (base : List SomeFact) (premises : Premises) → Stands base premises → premises.supposed ≡ None → IsSound b base premises.known
+  closed-sound base premises stands none =
       let same : base ≡ stands.facts = subst (λ supposed. GoesBack base stands.facts supposed) none stands.goes_back in
-      subst (λ fs. IsSound b fs standing.known) (sym same) stands.sound
+      subst (λ fs. IsSound b fs premises.known) (sym same) stands.sound
 
 -- FACT LINES ALONE
 
-pub plain-taken : (b : Problem) (bound : ℕ) (known : Known) (lines : List FactLine) → are_steps_taken b bound (standing_by known) (map Fact lines) ≡ are_taken b bound known lines
+pub plain-taken : (b : Problem) (bound : ℕ) (known : Known) (lines : List FactLine) → are_steps_taken b bound (premises_by known) (map Fact lines) ≡ are_taken b bound known lines
 plain-taken b bound known [] = refl
 plain-taken b bound known (line ∷ lines) = ap (λ rest. is_taken b bound known line && rest) (plain-taken b bound (with_line known line) lines)
 
-pub plain-known : (known : Known) (lines : List FactLine) → standing_after (standing_by known) (map Fact lines) ≡ standing_by (known_after known lines)
+pub plain-known : (known : Known) (lines : List FactLine) → premises_after (premises_by known) (map Fact lines) ≡ premises_by (known_after known lines)
 plain-known known [] = refl
 plain-known known (line ∷ lines) = plain-known (with_line known line) lines
 
-pub plain-lines : (b : Problem) (known : Known) (lines : List FactLine) → shown_by_all b (standing_by known) (map Fact lines) ≡ map (line_of b) lines
+pub plain-lines : (b : Problem) (known : Known) (lines : List FactLine) → shown_by_all b (premises_by known) (map Fact lines) ≡ map (line_of b) lines
 plain-lines b known [] = refl
 plain-lines b known (line ∷ lines) = ap (λ rest. line_of b line ∷ rest) (plain-lines b (with_line known line) lines)

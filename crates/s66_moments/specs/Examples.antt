@@ -15,7 +15,7 @@ use Rattle.s66_moments.specs.declared.fact_line.FactLine.TheVariants as fact
 use Rattle.s66_moments.specs.KnownFacts.{Known, span, known_first, known_after, is_taken, next_value, is_turned, is_loaded, start_at_least, arcs_of as known_arcs}
 use Rattle.s66_moments.specs.declared.fact_line.FactStep.{FactStep}
 use Rattle.s66_moments.specs.declared.fact_line.FactStep.TheVariants.{Fact, Suppose, Refuted}
-use Rattle.s66_moments.specs.Suppositions.{standing_first, standing_after, are_steps_taken, shown_by_all}
+use Rattle.s66_moments.specs.Suppositions.{premises_first, premises_after, are_steps_taken, shown_by_all}
 
 -- ARCS
 
@@ -150,15 +150,15 @@ start_after block lines prefix n = start_at_least (standard_problem block) (know
 -- SUPPOSITIONS
 
 abbrev pub are_steps_taken_of : List Instr → ℕ → List FactStep → Bool
-are_steps_taken_of block bound steps = are_steps_taken (standard_problem block) bound (standing_first (standard_problem block)) steps
+are_steps_taken_of block bound steps = are_steps_taken (standard_problem block) bound (premises_first (standard_problem block)) steps
 
 -- what is known after these steps
 abbrev pub known_after_steps : List Instr → List FactStep → Known
-known_after_steps block steps = (standing_after (standing_first (standard_problem block)) steps).known
+known_after_steps block steps = (premises_after (premises_first (standard_problem block)) steps).known
 
 -- what they show
 abbrev pub lines_shown : List Instr → List FactStep → List Line
-lines_shown block steps = shown_by_all (standard_problem block) (standing_first (standard_problem block)) steps
+lines_shown block steps = shown_by_all (standard_problem block) (premises_first (standard_problem block)) steps
 
 -- of three adds, the second stands before the first: else the third stands before the second, and after the first
 abbrev pub second_by_lines : List FactStep

@@ -20,7 +20,7 @@ pub use Networks.{rank_by, HasOwnArcs, same_stage, same_moment, with_arc, with_p
 pub use KnownFacts.{is_front, is_back, IsMomentWithin, IsAnchored, use_of, kind_of_load, line_of, later, latest, plus, span_over, span, reaches, Known, known_first, with_line, with_loads, arcs_of}
 pub use KnownFacts.{is_number, is_late_by_parcels, is_late_by_unit, is_pair_taken, are_rising, leads_up, is_used_from, is_used, are_used, is_arc_up, is_load_taken, is_taken, are_taken, known_after}
 pub use KnownFacts.{next_value, is_turned, is_left_from, is_left, is_loaded, load_of, turn, issue_at_least, start_at_least}
-pub use Suppositions.{begins, supposes, Supposition, Standing, standing_by, standing_first, with_step, standing_after, may_be_supposed, is_late_at, is_late_through, is_late_load, is_late}
+pub use Suppositions.{begins_supposition, is_of_supposition, Supposition, Premises, premises_by, premises_first, with_step, premises_after, may_be_supposed, is_late_at, is_late_through, is_late_load, is_late}
 pub use Suppositions.{is_step_taken, are_steps_taken, shown_by, shown_by_all}
 pub use Examples.{arc_in, hop, two_adds, unit_path, boolean_between_adds, two_multiplies, booleans_between, load_line, inner_line, two_copies_line, until_free_line, two_free_adds, still_line}
 pub use Examples.{two_copies_of_a_quotient, first_of_two, two_sums, three_free_adds, waits_for_the_unit, waits_for_x1, waits_for_two_parcels, product_and_booleans, load_fact, known_of, span_after}

@@ -14,16 +14,16 @@ use Rattle.s66_moments.specs.Networks.{Network, same_moment, with_pair}
 use Rattle.s66_moments.specs.KnownFacts.{Known, known_first, with_line, line_of, is_number, is_taken, arcs_of, plus, span, reaches}
 
 -- it begins a supposition
-abbrev pub begins : FactStep → Bool
-begins (Fact line) = false
-begins (Suppose m n) = true
-begins Refuted = false
+abbrev pub begins_supposition : FactStep → Bool
+begins_supposition (Fact line) = false
+begins_supposition (Suppose m n) = true
+begins_supposition Refuted = false
 
 -- it begins or ends one
-abbrev pub supposes : FactStep → Bool
-supposes (Fact line) = false
-supposes (Suppose m n) = true
-supposes Refuted = true
+abbrev pub is_of_supposition : FactStep → Bool
+is_of_supposition (Fact line) = false
+is_of_supposition (Suppose m n) = true
+is_of_supposition Refuted = true
 
 -- it is to show that the first number stands before the second, by what was known when it began
 pub record Supposition : Type 0 where
@@ -32,16 +32,16 @@ pub record Supposition : Type 0 where
   pub outer : Known
 
 -- what is known, with what is supposed, and the supposition that is open
-pub record Standing : Type 0 where
+pub record Premises : Type 0 where
   pub known : Known
   pub supposed : Option Supposition
 
 -- with nothing supposed
-abbrev pub standing_by : Known → Standing
-standing_by known = record { known = known; supposed = None }
+abbrev pub premises_by : Known → Premises
+premises_by known = record { known = known; supposed = None }
 
-abbrev pub standing_first : Problem → Standing
-standing_first b = standing_by (known_first b)
+abbrev pub premises_first : Problem → Premises
+premises_first b = premises_by (known_first b)
 
 abbrev pub with_pair_known : Known → ℕ → ℕ → Known
 with_pair_known known m n = record { before = with_pair known.before m n; loads = known.loads }
@@ -49,22 +49,22 @@ with_pair_known known m n = record { before = with_pair known.before m n; loads 
 -- WHAT IS KNOWN after steps
 
 -- n stands before m, to show that m stands before n
-abbrev pub supposing : Known → ℕ → ℕ → Standing
+abbrev pub supposing : Known → ℕ → ℕ → Premises
 supposing known m n = record { known = with_pair_known known n m; supposed = Some (record { first = m; second = n; outer = known }) }
 
 -- what was known when it began, and what it shows
-abbrev pub after_end : Standing → Option Supposition → Standing
-after_end standing None = standing
-after_end standing (Some s) = standing_by (with_pair_known s.outer s.first s.second)
+abbrev pub after_end : Premises → Option Supposition → Premises
+after_end premises None = premises
+after_end premises (Some s) = premises_by (with_pair_known s.outer s.first s.second)
 
-abbrev pub with_step : Standing → FactStep → Standing
-with_step standing (Fact line) = record { known = with_line standing.known line; supposed = standing.supposed }
-with_step standing (Suppose m n) = supposing standing.known m n
-with_step standing Refuted = after_end standing standing.supposed
+abbrev pub with_step : Premises → FactStep → Premises
+with_step premises (Fact line) = record { known = with_line premises.known line; supposed = premises.supposed }
+with_step premises (Suppose m n) = supposing premises.known m n
+with_step premises Refuted = after_end premises premises.supposed
 
-abbrev pub standing_after : Standing → List FactStep → Standing
-standing_after standing [] = standing
-standing_after standing (step ∷ steps) = standing_after (with_step standing step) steps
+abbrev pub premises_after : Premises → List FactStep → Premises
+premises_after premises [] = premises
+premises_after premises (step ∷ steps) = premises_after (with_step premises step) steps
 
 -- WHICH STEPS ARE TAKEN
 
@@ -89,23 +89,23 @@ abbrev pub is_late : Problem → ℕ → Known → Bool
 is_late b bound known = some_of (is_late_through b (arcs_of b known) bound) (numbers b.block) || some_of (is_late_load bound) known.loads
 
 -- a line by what is known and supposed; a supposition begins where none is open, and one that is ends where no order takes less
-abbrev pub is_step_taken : Problem → ℕ → Standing → FactStep → Bool
-is_step_taken b bound standing (Fact line) = is_taken b bound standing.known line
-is_step_taken b bound standing (Suppose m n) = not (is_some standing.supposed) && may_be_supposed b standing.known m n
-is_step_taken b bound standing Refuted = is_some standing.supposed && is_late b bound standing.known
+abbrev pub is_step_taken : Problem → ℕ → Premises → FactStep → Bool
+is_step_taken b bound premises (Fact line) = is_taken b bound premises.known line
+is_step_taken b bound premises (Suppose m n) = not (is_some premises.supposed) && may_be_supposed b premises.known m n
+is_step_taken b bound premises Refuted = is_some premises.supposed && is_late b bound premises.known
 
-abbrev pub are_steps_taken : Problem → ℕ → Standing → List FactStep → Bool
-are_steps_taken b bound standing [] = true
-are_steps_taken b bound standing (step ∷ steps) = is_step_taken b bound standing step && are_steps_taken b bound (with_step standing step) steps
+abbrev pub are_steps_taken : Problem → ℕ → Premises → List FactStep → Bool
+are_steps_taken b bound premises [] = true
+are_steps_taken b bound premises (step ∷ steps) = is_step_taken b bound premises step && are_steps_taken b bound (with_step premises step) steps
 
 -- WHAT THEY SHOW of all orders: nothing of what is known by what is supposed
 
 -- a line where nothing is supposed, and at the end of a supposition its pair
-abbrev pub shown_by : Problem → Standing → FactStep → List Line
-shown_by b standing (Fact line) = if is_some standing.supposed then [] else line_of b line ∷ []
-shown_by b standing (Suppose m n) = []
-shown_by b standing Refuted = option_map_or (λ (s : Supposition). Supposed s.first s.second ∷ []) standing.supposed []
+abbrev pub shown_by : Problem → Premises → FactStep → List Line
+shown_by b premises (Fact line) = if is_some premises.supposed then [] else line_of b line ∷ []
+shown_by b premises (Suppose m n) = []
+shown_by b premises Refuted = option_map_or (λ (s : Supposition). Supposed s.first s.second ∷ []) premises.supposed []
 
-abbrev pub shown_by_all : Problem → Standing → List FactStep → List Line
-shown_by_all b standing [] = []
-shown_by_all b standing (step ∷ steps) = shown_by b standing step ++ shown_by_all b (with_step standing step) steps
+abbrev pub shown_by_all : Problem → Premises → List FactStep → List Line
+shown_by_all b premises [] = []
+shown_by_all b premises (step ∷ steps) = shown_by b premises step ++ shown_by_all b (with_step premises step) steps

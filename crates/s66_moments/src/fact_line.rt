@@ -26,18 +26,18 @@ pub enum FactStep {
 
 impl FactStep {
     ghost use Rattle.std.specs.Prelude.{◌≡◌};
-    ghost use Rattle.s66_moments.specs.{begins, supposes};
+    ghost use Rattle.s66_moments.specs.{begins_supposition, is_of_supposition};
 
     /// Whether it begins a supposition.
-    pub fn begins(&self) -> bool
-        ensures { result ≡ begins self.now }
+    pub fn begins_supposition(&self) -> bool
+        ensures { result ≡ begins_supposition self.now }
     {
         matches!(self, FactStep::Suppose(..))
     }
 
     /// Whether it begins or ends one.
-    pub fn supposes(&self) -> bool
-        ensures { result ≡ supposes self.now }
+    pub fn is_of_supposition(&self) -> bool
+        ensures { result ≡ is_of_supposition self.now }
     {
         matches!(self, FactStep::Suppose(..) | FactStep::Refuted)
     }

@@ -2,20 +2,20 @@
 use Rattle.std.proofs.Common.{ℕ, ◌≡◌, ◌∙◌, true, true≢false, List, [], ◌∷◌, ◌++◌, Option, None, Some, ap, ap₂, append_assoc, arith, inl, inr, max, refl, sym, unwrap_or, ◌&&◌, append-nil}
 use Rattle.std.proofs.lemmas.Bool.{and_parts, cases_Bool}
 use Rattle.s66_model.specs.{Problem}
-use Rattle.s66_moments.specs.{Moment, Pair, Load, FactStep, KnownArc, LoadLine, Network, network, same_moment, with_arc, Known, with_loads as known_with, Supposition, Standing, are_steps_taken}
-use Rattle.s66_moments.specs.{is_step_taken, standing_after, standing_first, with_step}
+use Rattle.s66_moments.specs.{Moment, Pair, Load, FactStep, KnownArc, LoadLine, Network, network, same_moment, with_arc, Known, with_loads as known_with, Supposition, Premises, are_steps_taken}
+use Rattle.s66_moments.specs.{is_step_taken, premises_after, premises_first, with_step}
 use Rattle.s66_moments.specs.declared.fact_line.FactStep.TheVariants.{Fact, Suppose, Refuted}
 use Rattle.s66_moments.proofs.MoreArcs.{same_moment-true}
 use Rattle.s66_cert.specs.{Document}
-use Rattle.s66_checker.specs.{AreTaken, facts_of, known_of, problem_of, standing_of}
+use Rattle.s66_checker.specs.{AreTaken, facts_of, known_of, problem_of, premises_of}
 use Rattle.s66_reasons.specs.{to_show, arcs, each_left, load_left, loads_left, to_show_after, with_load, with_loads}
 
 -- WHAT IS TO BE SHOWN behind a line
 
-pub to_show-after : (standing : Standing) (step : FactStep) → to_show_after (to_show standing) step ≡ to_show (with_step standing step)
-to_show-after standing (Fact line) = refl
-to_show-after standing (Suppose m n) = refl
-to_show-after standing Refuted = ended standing.known standing.supposed
+pub to_show-after : (premises : Premises) (step : FactStep) → to_show_after (to_show premises) step ≡ to_show (with_step premises step)
+to_show-after premises (Fact line) = refl
+to_show-after premises (Suppose m n) = refl
+to_show-after premises Refuted = ended premises.known premises.supposed
   where
     ended : (known : Known) (supposed : Option Supposition) → None ≡ to_show (with_step (record { known = known; supposed = supposed }) Refuted)
     ended known None = refl
@@ -36,12 +36,12 @@ abbrev loads_by : Known → Option Supposition → List KnownArc
 loads_by known None = known.loads
 loads_by known (Some s) = s.outer.loads
 
-abbrev loads_out : Standing → List KnownArc
-loads_out standing = loads_by standing.known standing.supposed
+abbrev loads_out : Premises → List KnownArc
+loads_out premises = loads_by premises.known premises.supposed
 
 module _ (b : Problem) (bound : ℕ) where
-  abbrev left_of : Standing → FactStep → List KnownArc
-  left_of standing step = loads_in (load_left (to_show standing) step ∷ [])
+  abbrev left_of : Premises → FactStep → List KnownArc
+  left_of premises step = loads_in (load_left (to_show premises) step ∷ [])
 
   step-loads : (known : Known) (supposed : Option Supposition) (step : FactStep) → is_step_taken b bound (record { known = known; supposed = supposed }) step ≡ true →
       loads_out (with_step (record { known = known; supposed = supposed }) step) ≡ loads_out (record { known = known; supposed = supposed }) ++ left_of (record { known = known; supposed = supposed }) step
@@ -57,21 +57,21 @@ module _ (b : Problem) (bound : ℕ) where
   one-more None loads = refl
   one-more (Some line) loads = refl
 
-  loads-after : (standing : Standing) (steps : List FactStep) → are_steps_taken b bound standing steps ≡ true →
-      loads_out (standing_after standing steps) ≡ loads_out standing ++ loads_in (each_left load_left (to_show standing) steps)
-  loads-after standing [] taken = sym (append-nil (loads_out standing))
-  loads-after standing (step ∷ steps) taken =
-      let (here, past) = and_parts (is_step_taken b bound standing step) _ taken in
-      let rest : List (Option LoadLine) = each_left load_left (to_show_after (to_show standing) step) steps in
-      loads-after (with_step standing step) steps past
-      ∙ ap (λ t. loads_out (with_step standing step) ++ loads_in (each_left load_left t steps)) (sym (to_show-after standing step))
-      ∙ ap (λ (loads : List KnownArc). loads ++ loads_in rest) (step-loads standing.known standing.supposed step here)
-      ∙ append_assoc (loads_out standing) (left_of standing step) (loads_in rest)
-      ∙ ap (λ (loads : List KnownArc). loads_out standing ++ loads) (one-more (load_left (to_show standing) step) rest)
+  loads-after : (premises : Premises) (steps : List FactStep) → are_steps_taken b bound premises steps ≡ true →
+      loads_out (premises_after premises steps) ≡ loads_out premises ++ loads_in (each_left load_left (to_show premises) steps)
+  loads-after premises [] taken = sym (append-nil (loads_out premises))
+  loads-after premises (step ∷ steps) taken =
+      let (here, past) = and_parts (is_step_taken b bound premises step) _ taken in
+      let rest : List (Option LoadLine) = each_left load_left (to_show_after (to_show premises) step) steps in
+      loads-after (with_step premises step) steps past
+      ∙ ap (λ t. loads_out (with_step premises step) ++ loads_in (each_left load_left t steps)) (sym (to_show-after premises step))
+      ∙ ap (λ (loads : List KnownArc). loads ++ loads_in rest) (step-loads premises.known premises.supposed step here)
+      ∙ append_assoc (loads_out premises) (left_of premises step) (loads_in rest)
+      ∙ ap (λ (loads : List KnownArc). loads_out premises ++ loads) (one-more (load_left (to_show premises) step) rest)
 
 -- out of a supposition
-loads-known : (standing : Standing) → standing.supposed ≡ None → loads_out standing ≡ standing.known.loads
-loads-known standing closed = same standing.known standing.supposed closed
+loads-known : (premises : Premises) → premises.supposed ≡ None → loads_out premises ≡ premises.known.loads
+loads-known premises closed = same premises.known premises.supposed closed
   where
     same : (known : Known) (supposed : Option Supposition) → supposed ≡ None → loads_out (record { known = known; supposed = supposed }) ≡ known.loads
     same known None closed = refl
@@ -120,5 +120,5 @@ module _ (e f : Moment) where
 pub arcs-lines : (d : Document) → AreTaken d → (e f : Moment) → arcs d e f ≡ with_loads e f (loads_left d) (network (problem_of d) (known_of d).before e f)
 arcs-lines d taken e f =
     let net : Network = network (problem_of d) (known_of d).before in
-    ap (λ (loads : List KnownArc). known_with net loads e f) (sym (loads-known (standing_of d) taken.closed) ∙ loads-after (problem_of d) d.bound (standing_first (problem_of d)) (facts_of d) taken.each)
+    ap (λ (loads : List KnownArc). known_with net loads e f) (sym (loads-known (premises_of d) taken.closed) ∙ loads-after (problem_of d) d.bound (premises_first (problem_of d)) (facts_of d) taken.each)
     ∙ loads-each e f net (loads_left d)

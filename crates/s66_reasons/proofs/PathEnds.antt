@@ -9,7 +9,7 @@ use Rattle.s66_model.specs.{Problem, ResultAt, free_after, issue_of, point, poin
 use Rattle.s66_model.proofs.Remaining.{remaining-parts}
 use Rattle.s66_moments.specs.{Stage, Issue, Start, Done, Free, Moment, Origin, At, End, has_stage, is_moment, latency_to, own_arc, soonest, time_of, AreSo, Fact, IsNumber, facts_after, use_time}
 use Rattle.s66_moments.specs.{Hop as Step, HasOwnArcs, IsRising, most_arcs, moments_of, network, soonest_path, tail, is_left, is_left_from, kind_of_load, next_value, reaches, use_of, shown_by_all}
-use Rattle.s66_moments.specs.{standing_first}
+use Rattle.s66_moments.specs.{premises_first}
 use Rattle.s66_moments.proofs.Tails.{all-among, arc-some, own-among, path-tail, tail-reached}
 use Rattle.s66_moments.proofs.KnownLines.{IsSound, arcs-own, arcs-rise, arcs-steps, span-tail}
 use Rattle.s66_moments.proofs.FoundedLines.{lines-so}
@@ -17,7 +17,7 @@ use Rattle.s66_moments.proofs.Steps.{step-so}
 use Rattle.s66_moments.proofs.SupposedLines.{after-stands, closed-sound}
 use Rattle.s66_moments.proofs.Spans.{height-some}
 use Rattle.s66_cert.specs.{Document}
-use Rattle.s66_checker.specs.{AreTaken, facts_of, known_of, problem_of, standing_of}
+use Rattle.s66_checker.specs.{AreTaken, facts_of, known_of, problem_of, premises_of}
 use Rattle.s66_reasons.specs.{Hop, Work, load_end, work_of_load, Reason, arcs, at_end_words, by_words, hop_rows, hops_of, later_words, longest_load_row, pairs_of, path_rows, table_rows, to_end, issue_row}
 use Rattle.s66_reasons.specs.{next_rows, AreNoSooner, AreRowsOf, HasNoneSooner, IsAlong, IsLoadShown, IsPathShown, last_number, sum_of}
 use Rattle.s66_reasons.proofs.Along.{along, along-high, as-path, end-path, rank-along}
@@ -160,10 +160,10 @@ module _ (d : Document) (taken : AreTaken d) where
   b2 = problem_of d
 
   abbrev facts : List Fact
-  facts = facts_after [] (shown_by_all b2 (standing_first b2) (facts_of d))
+  facts = facts_after [] (shown_by_all b2 (premises_first b2) (facts_of d))
 
   sound : IsSound b2 facts (known_of d)
-  sound = closed-sound b2 d.bound facts (standing_of d) (after-stands b2 d.bound (facts_of d) taken.each).1 taken.closed
+  sound = closed-sound b2 d.bound facts (premises_of d) (after-stands b2 d.bound (facts_of d) taken.each).1 taken.closed
 
   pub rises-of : IsRising b2 (arcs d)
   rises-of = arcs-rise b2 facts (known_of d) sound
@@ -241,7 +241,7 @@ module _ (d : Document) (taken : AreTaken d) where
 
     module _ (order : List ℕ) (legal : IsLegal b2.block order) (less : total_of b2 order < d.bound) where
       so : AreSo b2 order facts
-      so = lines-so b2 d.bound [] (shown_by_all b2 (standing_first b2) (facts_of d)) (after-stands b2 d.bound (facts_of d) taken.each).0 order legal less tt
+      so = lines-so b2 d.bound [] (shown_by_all b2 (premises_first b2) (facts_of d)) (after-stands b2 d.bound (facts_of d) taken.each).0 order legal less tt
 
       none-sooner : (number : ℕ) (e : Moment) (hops : List Hop) (f : Moment) → number ≤ time_of b2 order e → IsAlong (arcs d) e hops f → AreNoSooner (time_of b2 order) number hops
       none-sooner number e [] f le leads = tt

@@ -4,7 +4,7 @@ use Rattle.std.proofs.lemmas.Bool.{and_parts, cases_Bool, or_cases}
 use Rattle.s66_isa.specs.{Among, some_of, numbers}
 use Rattle.s66_model.specs.{Problem, total_of, IsLegal}
 use Rattle.s66_moments.specs.{Stage, Issue, Start, Moment, Origin, At, End, FactStep, KnownArc, time_of, AreSo, Arc, Before, Fact as FactOf, NoOrder, fact_of, Network, same_moment, Known, arcs_of}
-use Rattle.s66_moments.specs.{line_of, plus, span, Standing, Supposition, are_steps_taken, is_late, is_late_at, is_late_load, is_late_through, is_step_taken, standing_after, standing_first, with_step}
+use Rattle.s66_moments.specs.{line_of, plus, span, Premises, Supposition, are_steps_taken, is_late, is_late_at, is_late_load, is_late_through, is_step_taken, premises_after, premises_first, with_step}
 use Rattle.s66_moments.specs.declared.fact_line.FactStep.TheVariants.{Fact, Suppose, Refuted}
 use Rattle.s66_moments.proofs.FactLaws.{among-so, forced}
 use Rattle.s66_moments.proofs.FoundedLines.{line-follows}
@@ -90,8 +90,8 @@ module _ (b : Problem) (bound : ℕ) where
     so : AreSoIn supposed facts
     outer : HasOuter supposed
 
-  abbrev HoldsNow : Standing → Type 0
-  HoldsNow standing = Holds standing.known standing.supposed
+  abbrev HoldsNow : Premises → Type 0
+  HoldsNow premises = Holds premises.known premises.supposed
 
   refuted-holds : (known : Known) (s : Supposition) → Holds known (Some s) → IsOuter s → is_late b bound known ≡ true → HoldsNow (with_step (record { known = known; supposed = Some s }) Refuted)
   refuted-holds known s holds outer late =
@@ -127,34 +127,34 @@ module _ (b : Problem) (bound : ℕ) where
   step-holds known None Refuted holds taken = absurd (true≢false (sym taken))
   step-holds known (Some s) Refuted holds taken = refuted-holds known s holds holds.outer taken
 
-  steps-hold : (standing : Standing) (steps : List FactStep) → HoldsNow standing → are_steps_taken b bound standing steps ≡ true → HoldsNow (standing_after standing steps)
-  steps-hold standing [] holds taken = holds
-  steps-hold standing (step ∷ steps) holds taken =
-      let (here, past) = and_parts (is_step_taken b bound standing step) _ taken in
-      steps-hold (with_step standing step) steps (step-holds standing.known standing.supposed step holds here) past
+  steps-hold : (premises : Premises) (steps : List FactStep) → HoldsNow premises → are_steps_taken b bound premises steps ≡ true → HoldsNow (premises_after premises steps)
+  steps-hold premises [] holds taken = holds
+  steps-hold premises (step ∷ steps) holds taken =
+      let (here, past) = and_parts (is_step_taken b bound premises step) _ taken in
+      steps-hold (with_step premises step) steps (step-holds premises.known premises.supposed step holds here) past
 
-  after-holds : (steps : List FactStep) → are_steps_taken b bound (standing_first b) steps ≡ true → HoldsNow (standing_after (standing_first b) steps)
+  after-holds : (steps : List FactStep) → are_steps_taken b bound (premises_first b) steps ≡ true → HoldsNow (premises_after (premises_first b) steps)
   after-holds steps taken =
-      steps-hold (standing_first b) steps (record { facts = []; sound = first-sound b; so = λ order legal less has. tt; outer = tt }) taken
+      steps-hold (premises_first b) steps (record { facts = []; sound = first-sound b; so = λ order legal less has. tt; outer = tt }) taken
 
 -- OF A DOCUMENT
 
-module _ (d : Document) (front : List FactStep) (taken : are_steps_taken (problem_of d) d.bound (standing_first (problem_of d)) front ≡ true) where
-  abbrev standing : Standing
-  standing = standing_after (standing_first (problem_of d)) front
+module _ (d : Document) (front : List FactStep) (taken : are_steps_taken (problem_of d) d.bound (premises_first (problem_of d)) front ≡ true) where
+  abbrev premises : Premises
+  premises = premises_after (premises_first (problem_of d)) front
 
-  holds : HoldsNow (problem_of d) d.bound standing
+  holds : HoldsNow (problem_of d) d.bound premises
   holds = after-holds (problem_of d) d.bound front taken
 
-  pub holds-in : HoldsIn d standing
-  holds-in order legal less has = has-known (problem_of d) d.bound holds.facts standing.known holds.sound order legal (holds.so order legal less has)
+  pub holds-in : HoldsIn d premises
+  holds-in order legal less has = has-known (problem_of d) d.bound holds.facts premises.known holds.sound order legal (holds.so order legal less has)
 
   -- the last step of a supposition
-  pub refuted-in : is_step_taken (problem_of d) d.bound standing Refuted ≡ true → IsRefutedIn d standing
+  pub refuted-in : is_step_taken (problem_of d) d.bound premises Refuted ≡ true → IsRefutedIn d premises
   refuted-in last order legal has =
       elim (cases_Bool (nat_lt (total_of (problem_of d) order) d.bound)) [
         | inl faster ↦
             let less : total_of (problem_of d) order < d.bound = ltb-true (total_of (problem_of d) order) d.bound faster in
-            late-end (problem_of d) d.bound holds.facts standing.known holds.sound order legal (holds.so order legal less has) (and_parts _ (is_late (problem_of d) d.bound standing.known) last).1
+            late-end (problem_of d) d.bound holds.facts premises.known holds.sound order legal (holds.so order legal less has) (and_parts _ (is_late (problem_of d) d.bound premises.known) last).1
         | inr not ↦ ltb-false (total_of (problem_of d) order) d.bound not
       ]

@@ -2,7 +2,7 @@
 use Rattle.std.specs.Prelude.{ℕ, ◌+◌, ◌-◌, ◌*◌, if◌then◌else◌, ◌==◌, max, Option, None, Some, List, [], ◌∷◌, ◌++◌, codes, decimal, get_or, length, map, option_map, unwrap_or}
 use Rattle.s66_isa.specs.{Kind, weigh, numbers}
 use Rattle.s66_model.specs.{Problem, copies, row_at}
-use Rattle.s66_moments.specs.{Issue, Start, Done, Free, Moment, Origin, At, End, FactLine, FactStep, Use, use_time, Network, Supposition, Standing, is_late_at, is_late_through, with_step, Known}
+use Rattle.s66_moments.specs.{Issue, Start, Done, Free, Moment, Origin, At, End, FactLine, FactStep, Use, use_time, Network, Supposition, Premises, is_late_at, is_late_through, with_step, Known}
 use Rattle.s66_moments.specs.{arcs_of, is_late_by_parcels, kind_of_load, span, use_of}
 use Rattle.s66_moments.specs.declared.fact_line.FactLine.TheVariants as fact
 use Rattle.s66_moments.specs.declared.fact_line.FactStep.TheVariants as step
@@ -166,8 +166,8 @@ abbrev pub refuted_words : Problem → Network → (bound behind : ℕ) → List
 refuted_words b arcs bound behind = codes "if not, " ++ too_late_words b arcs bound (late_number b arcs bound (behind ∷ numbers b.block))
 
 -- the pair that is to be shown
-abbrev pub to_show : Standing → Option (ℕ × ℕ)
-to_show standing = option_map (λ (s : Supposition). (s.first, s.second)) standing.supposed
+abbrev pub to_show : Premises → Option (ℕ × ℕ)
+to_show premises = option_map (λ (s : Supposition). (s.first, s.second)) premises.supposed
 
 abbrev pub refuted_sentence : Document → Network → Option (ℕ × ℕ) → List ℕ
 refuted_sentence d arcs None = []
@@ -175,10 +175,10 @@ refuted_sentence d arcs (Some pair) = pair_words d pair.0 pair.1 ++ refuted_word
 
 -- ALL LINES, numbered, each by what is known there
 
-abbrev pub step_sentence : Document → Standing → FactStep → List ℕ
-step_sentence d standing (step.Fact line) = fact_sentence d standing.known line
-step_sentence d standing (step.Suppose m n) = suppose_sentence d m n
-step_sentence d standing step.Refuted = refuted_sentence d (arcs_of (problem_of d) standing.known) (to_show standing)
+abbrev pub step_sentence : Document → Premises → FactStep → List ℕ
+step_sentence d premises (step.Fact line) = fact_sentence d premises.known line
+step_sentence d premises (step.Suppose m n) = suppose_sentence d m n
+step_sentence d premises step.Refuted = refuted_sentence d (arcs_of (problem_of d) premises.known) (to_show premises)
 
 -- a fact line within a supposition stands further in
 abbrev pub margin : (to_show : Option (ℕ × ℕ)) → FactStep → List ℕ
@@ -187,9 +187,9 @@ margin (Some pair) (step.Fact line) = codes "    "
 margin (Some pair) (step.Suppose m n) = codes "  "
 margin (Some pair) step.Refuted = codes "  "
 
-abbrev pub numbered_step : Document → Standing → ℕ → FactStep → List ℕ
-numbered_step d standing number s = margin (to_show standing) s ++ decimal number ++ codes ". " ++ step_sentence d standing s ++ codes "\n"
+abbrev pub numbered_step : Document → Premises → ℕ → FactStep → List ℕ
+numbered_step d premises number s = margin (to_show premises) s ++ decimal number ++ codes ". " ++ step_sentence d premises s ++ codes "\n"
 
-abbrev pub facts_from : Document → Standing → ℕ → List FactStep → List ℕ
-facts_from d standing number [] = []
-facts_from d standing number (s ∷ steps) = numbered_step d standing number s ++ facts_from d (with_step standing s) (number + 1) steps
+abbrev pub facts_from : Document → Premises → ℕ → List FactStep → List ℕ
+facts_from d premises number [] = []
+facts_from d premises number (s ∷ steps) = numbered_step d premises number s ++ facts_from d (with_step premises s) (number + 1) steps

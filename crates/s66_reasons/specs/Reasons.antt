@@ -3,7 +3,7 @@ use Rattle.std.specs.Prelude.{ℕ, ◌+◌, ◌-◌, if◌then◌else◌, ◌&&�
 use Rattle.s66_isa.specs.{Kind, every, weigh, numbers, same_kind}
 use Rattle.s66_model.specs.{Problem, copies, next, points_of, row_at, total_of, is_remaining, remaining, sum_remaining, Whole, Chain, Load, Parcels, if_last, load, rest_busy, tail, work_of, Tree}
 use Rattle.s66_model.specs.{Vertex, AtTerminal, AtSplit, flat, splits, Ending, Bounding, Dominated, Factual, Next, Turned, AtLine, LoadFrom}
-use Rattle.s66_moments.specs.{Issue, Origin, At, End, standing_first}
+use Rattle.s66_moments.specs.{Issue, Origin, At, End, premises_first}
 use Rattle.s66_cert.specs.{Document, has_factual, tree_placed}
 use Rattle.s66_checker.specs.{problem_of, facts_of}
 use Rattle.s66_reasons.specs.declared.tree.TheConstants.{SAID_SPLITS}
@@ -197,7 +197,7 @@ colon count = (if count == 0 then [] else splits_words count) ++ codes ":\n"
 -- leaves by facts are said after them
 abbrev pub fact_reasons_text : Document → List ℕ
 fact_reasons_text d =
-    if has_factual d.tree then facts_from d (standing_first (problem_of d)) 1 (facts_of d) ++ faster_words d.bound else []
+    if has_factual d.tree then facts_from d (premises_first (problem_of d)) 1 (facts_of d) ++ faster_words d.bound else []
 
 abbrev pub leaves_text : Document → List ℕ
 leaves_text d = fact_reasons_text d ++ lines_text d (tree_placed [] d.tree)

@@ -2,7 +2,7 @@
 use Rattle.std.specs.Prelude.{ℕ, ◌+◌, ◌≡◌, ◌≤◌, ◌<◌, ◌⊎◌, true, List, [], ◌∷◌, ◌++◌, Option, None, Some}
 use Rattle.s66_isa.specs.{Among, least, weigh}
 use Rattle.s66_model.specs.{Problem, row_at, total_of, IsLegal, Leaf, Whole, Chain, Load, Parcels, AtTerminal, Ending}
-use Rattle.s66_moments.specs.{Stage, Issue, Start, Moment, At, End, soonest, time_of, Arc, Before, IsNumber, IsSo, Known, arcs_of, span, Supposition, Standing, Network}
+use Rattle.s66_moments.specs.{Stage, Issue, Start, Moment, At, End, soonest, time_of, Arc, Before, IsNumber, IsSo, Known, arcs_of, span, Supposition, Premises, Network}
 use Rattle.s66_cert.specs.{Document, tree_placed}
 use Rattle.s66_checker.specs.{problem_of}
 use Rattle.s66_reasons.specs.declared.hop.Hop.{Hop}
@@ -94,12 +94,12 @@ HasSupposed b None order = Unit {0}
 HasSupposed b (Some s) order = IsSo b order (Before s.second s.first)
 
 -- each faster order that has what is supposed has what is known with it
-abbrev pub HoldsIn : Document → Standing → Type 0
-HoldsIn d standing =
-    (order : List ℕ) → IsLegal (problem_of d).block order → total_of (problem_of d) order < d.bound → HasSupposed (problem_of d) standing.supposed order →
-    HasKnown (problem_of d) standing.known order
+abbrev pub HoldsIn : Document → Premises → Type 0
+HoldsIn d premises =
+    (order : List ℕ) → IsLegal (problem_of d).block order → total_of (problem_of d) order < d.bound → HasSupposed (problem_of d) premises.supposed order →
+    HasKnown (problem_of d) premises.known order
 
 -- no faster order has what is supposed
-abbrev pub IsRefutedIn : Document → Standing → Type 0
-IsRefutedIn d standing =
-    (order : List ℕ) → IsLegal (problem_of d).block order → HasSupposed (problem_of d) standing.supposed order → d.bound ≤ total_of (problem_of d) order
+abbrev pub IsRefutedIn : Document → Premises → Type 0
+IsRefutedIn d premises =
+    (order : List ℕ) → IsLegal (problem_of d).block order → HasSupposed (problem_of d) premises.supposed order → d.bound ≤ total_of (problem_of d) order

@@ -3,8 +3,8 @@ use Rattle.std.specs.Prelude.{ℕ, ◌≡◌, ◌≤◌, ◌<◌, if◌then◌el
 use Rattle.s66_isa.specs.{BLOCK_LIMIT, every}
 use Rattle.s66_model.specs.{Problem, IsBeginning, is_remaining, Whole, Chain, Load, Parcels, TreeHolds, Vertex, AtTerminal, AtSplit, Ending, Bounding, Dominated, Factual, Next, Turned, AtLine}
 use Rattle.s66_model.specs.{LoadFrom}
-use Rattle.s66_moments.specs.{LoadLine, Moment, Origin, At, End, IsNumber, known_first, same_moment, standing_first}
-use Rattle.s66_facts.specs.{Ground, known_of as known_in, Grounds, standing_in}
+use Rattle.s66_moments.specs.{LoadLine, Moment, Origin, At, End, IsNumber, known_first, same_moment, premises_first}
+use Rattle.s66_facts.specs.{Ground, known_of as known_in, Grounds, premises_in}
 use Rattle.s66_cert.specs.{Document, IsDocument}
 use Rattle.s66_checker.specs.Checked.{Checked}
 use Rattle.s66_checker.specs.{AreTaken, KnowsAll, line_fault, problem_of}
@@ -86,5 +86,5 @@ pub record AreKnown (d : Document) (prefix : Checked) (by_dependence by_lines : 
 -- the empty prefix, and what is known before the first step
 pub record AreBegun (d : Document) (prefix : Checked) (grounds : Grounds) : Type 0 where
   pub first : AreFirst d prefix grounds.ground
-  pub standing : standing_in grounds ≡ standing_first (problem_of d)
+  pub premises : premises_in grounds ≡ premises_first (problem_of d)
   pub steps : grounds.steps ≡ 0

@@ -2,7 +2,7 @@
 
 ghost use Rattle.std.specs.Prelude.{ℕ, List, ◌≡◌, true};
 ghost use Rattle.s66_model.specs.{Leaf, Alone, Bounding, Factual, Next, Turned, LoadFrom};
-ghost use Rattle.s66_moments.specs.{IsNumber, is_turned, FactStep, are_steps_taken, is_step_taken, standing_after, standing_first};
+ghost use Rattle.s66_moments.specs.{IsNumber, is_turned, FactStep, are_steps_taken, is_step_taken, premises_after, premises_first};
 ghost use Rattle.s66_moments.specs.declared.fact_line.FactStep.TheVariants.{Refuted};
 ghost use Rattle.s66_cert.specs.{Document, IsDocument};
 ghost use Rattle.s66_checker.specs.{Yes, AreTaken, known_of, problem_of, verdict};
@@ -21,11 +21,11 @@ pub fn reasons_law()
     ensures next { (limit : ℕ) (d : Document) (time bound n : ℕ) → IsDocument limit d → verdict d ≡ Yes time bound →
         d.tree ≡ Alone (Factual (Next n)) → IsPathShown d bound n }
     ensures supposed { (d : Document) (front : List FactStep) → are_steps_taken (problem_of d) d.bound
-        (standing_first (problem_of d)) front ≡ true → HoldsIn d (standing_after (standing_first (problem_of d)) front) }
+        (premises_first (problem_of d)) front ≡ true → HoldsIn d (premises_after (premises_first (problem_of d)) front) }
     ensures refuted { (d : Document) (front : List FactStep) → are_steps_taken (problem_of d) d.bound
-        (standing_first (problem_of d)) front ≡ true → is_step_taken (problem_of d) d.bound
-        (standing_after (standing_first (problem_of d)) front) Refuted ≡ true →
-        IsRefutedIn d (standing_after (standing_first (problem_of d)) front) }
+        (premises_first (problem_of d)) front ≡ true → is_step_taken (problem_of d) d.bound
+        (premises_after (premises_first (problem_of d)) front) Refuted ≡ true →
+        IsRefutedIn d (premises_after (premises_first (problem_of d)) front) }
     ensures no_sooner { (d : Document) (n : ℕ) → AreTaken d → IsNumber (problem_of d) n → HasNoneSooner d n }
     ensures left { (limit : ℕ) (d : Document) (time bound : ℕ) (at : List ℕ) (after : ℕ) (ns : List ℕ) →
         IsDocument limit d → verdict d ≡ Yes time bound → IsLeafAt d at (Factual (LoadFrom after ns)) →

@@ -4,7 +4,7 @@
 ghost use Rattle.std.specs.Prelude.{◌≡◌, ◌≤◌, ◌++◌, [], OnOk, length};
 ghost use Rattle.s66_isa.specs.{BLOCK_LIMIT};
 ghost use Rattle.s66_model.specs.{splits};
-ghost use Rattle.s66_moments.specs.{standing_first};
+ghost use Rattle.s66_moments.specs.{premises_first};
 ghost use Rattle.s66_cert.specs.{tree_placed, document_of};
 ghost use Rattle.s66_checker.specs.{Yes, facts_of, problem_of, verdict};
 ghost use Rattle.s66_reasons.specs.{and_facts, colon, counts_text, faster_words, closing_line, leaves_text, lines_text, opening_words, reasons_text, splits_words, tree_text, facts_from, AreBegun, IsRight};
@@ -85,7 +85,7 @@ fn push_by_facts(
     requires begun { AreBegun (document_of document.now) prefix supposing }
     requires right { IsRight (document_of document.now) }
     ensures { OnOk result (out.new.items ≡ out.old.items ++
-        (facts_from (document_of document.now) (standing_first (problem_of (document_of document.now))) 1 (facts_of (document_of document.now)) ++
+        (facts_from (document_of document.now) (premises_first (problem_of (document_of document.now))) 1 (facts_of (document_of document.now)) ++
         faster_words (document_of document.now).bound) ++
         lines_text (document_of document.now) (tree_placed [] (document_of document.now).tree)) }
 {

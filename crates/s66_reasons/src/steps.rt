@@ -2,8 +2,8 @@
 
 ghost use Rattle.std.specs.Prelude.{◌≡◌, ◌++◌, [], ◌∷◌, true, IfOk, IfSome, OnOk};
 ghost use Rattle.s66_isa.specs.{numbers};
-ghost use Rattle.s66_moments.specs.{IsNumber, arcs_of, is_step_taken, standing_first};
-ghost use Rattle.s66_facts.specs.{known_of as known_in, standing_in};
+ghost use Rattle.s66_moments.specs.{IsNumber, arcs_of, is_step_taken, premises_first};
+ghost use Rattle.s66_facts.specs.{known_of as known_in, premises_in};
 ghost use Rattle.s66_cert.specs.{document_of};
 ghost use Rattle.s66_checker.specs.{KnowsAll, facts_of, problem_of};
 ghost use Rattle.s66_reasons.specs.{comes_words, facts_from, late_number, margin, numbered_step, refuted_sentence, refuted_words, suppose_sentence, through_words, to_show, too_late_words, AreBegun};
@@ -163,12 +163,12 @@ fn push_numbered(
     requires same { prefix.now.problem ≡ supposing.now.ground.problem }
     requires start { prefix.now.numbers ≡ [] }
     requires problem { supposing.now.ground.problem ≡ problem_of (document_of document.now) }
-    requires shows { shows ≡ to_show (standing_in supposing.now) }
+    requires shows { shows ≡ to_show (premises_in supposing.now) }
     requires number { IfSome shows (λ pair. IsNumber supposing.now.ground.problem pair.0) }
     requires taken { is_step_taken (problem_of (document_of document.now)) (document_of document.now).bound
-        (standing_in supposing.now) step.now ≡ true }
+        (premises_in supposing.now) step.now ≡ true }
     ensures { OnOk result (out.new.items ≡ out.old.items ++
-        numbered_step (document_of document.now) (standing_in supposing.now) number step.now) }
+        numbered_step (document_of document.now) (premises_in supposing.now) number step.now) }
 {
     push_between(out, margin(shows, step), number, b". ")?;
     match step {
@@ -188,7 +188,7 @@ pub(crate) fn push_facts(
 ) -> Result<Facts, AllocError>
     requires { AreBegun (document_of document.now) prefix.now supposing }
     ensures text { OnOk result (out.new.items ≡ out.old.items ++
-        facts_from (document_of document.now) (standing_first (problem_of (document_of document.now))) 1
+        facts_from (document_of document.now) (premises_first (problem_of (document_of document.now))) 1
         (facts_of (document_of document.now))) }
     ensures knows { IfOk result (KnowsAll (document_of document.now)) }
 {

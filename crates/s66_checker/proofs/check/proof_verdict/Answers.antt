@@ -1,5 +1,5 @@
 use Rattle.std.proofs.Common.{◌∙◌, [], sym}
-use Rattle.s66_moments.specs.{standing_first}
+use Rattle.s66_moments.specs.{premises_first}
 use Rattle.s66_cert.specs.{document_of, tree_placed}
 use Rattle.s66_checker.specs.{problem_of, facts_of, tree_line_number, fact_line_number, lines_verdict}
 use Rattle.s66_checker.proofs.TakenLines.{facts-taken}
@@ -11,4 +11,4 @@ returns-in-Err c = let d = document_of c.args.document.now in sym (c.in-Err.ensu
 pub returns-in-Ok : goal.returns-in-Ok
 returns-in-Ok c =
     let d = document_of c.args.document.now in
-    c.tree_verdict.ensures ∙ sym (facts-taken d (facts_of d) (fact_line_number d) 0 (standing_first (problem_of d)) (lines_verdict d (tree_line_number d) (tree_placed [] d.tree)) c.in-Ok.ensures.taken.each c.in-Ok.ensures.taken.closed)
+    c.tree_verdict.ensures ∙ sym (facts-taken d (facts_of d) (fact_line_number d) 0 (premises_first (problem_of d)) (lines_verdict d (tree_line_number d) (tree_placed [] d.tree)) c.in-Ok.ensures.taken.each c.in-Ok.ensures.taken.closed)

@@ -1,6 +1,6 @@
 use Rattle.std.proofs.Common.{ℕ, ◌≡◌, true, List, [], None}
 use Rattle.s66_model.specs.{Problem}
-use Rattle.s66_moments.specs.{FactStep, Fact, facts_after, Standing, standing_first, standing_after, are_steps_taken, shown_by_all}
+use Rattle.s66_moments.specs.{FactStep, Fact, facts_after, Premises, premises_first, premises_after, are_steps_taken, shown_by_all}
 use Rattle.s66_moments.proofs.KnownLines.{IsSound, arcs-steps, arcs-own, arcs-rise, next-too_late, turned-too_late, span-tail}
 use Rattle.s66_moments.proofs.LoadLeaves.{loaded-closed}
 use Rattle.s66_moments.proofs.Turns.{turn-comes}
@@ -8,15 +8,15 @@ use Rattle.s66_moments.proofs.SupposedLines.{Stands, after-stands, closed-sound}
 use Rattle.s66_moments.proofs.suppositions.supposition_law.Goals as goal
 
 abbrev facts : Problem → List FactStep → List Fact
-facts b steps = facts_after [] (shown_by_all b (standing_first b) steps)
+facts b steps = facts_after [] (shown_by_all b (premises_first b) steps)
 
-abbrev after : Problem → List FactStep → Standing
-after b steps = standing_after (standing_first b) steps
+abbrev after : Problem → List FactStep → Premises
+after b steps = premises_after (premises_first b) steps
 
-stands : (b : Problem) (bound : ℕ) (steps : List FactStep) → are_steps_taken b bound (standing_first b) steps ≡ true → Stands b bound (facts b steps) (after b steps)
+stands : (b : Problem) (bound : ℕ) (steps : List FactStep) → are_steps_taken b bound (premises_first b) steps ≡ true → Stands b bound (facts b steps) (after b steps)
 stands b bound steps taken = (after-stands b bound steps taken).1
 
-sound : (b : Problem) (bound : ℕ) (steps : List FactStep) → are_steps_taken b bound (standing_first b) steps ≡ true → (after b steps).supposed ≡ None → IsSound b (facts b steps) (after b steps).known
+sound : (b : Problem) (bound : ℕ) (steps : List FactStep) → are_steps_taken b bound (premises_first b) steps ≡ true → (after b steps).supposed ≡ None → IsSound b (facts b steps) (after b steps).known
 sound b bound steps taken none = closed-sound b bound (facts b steps) (after b steps) (stands b bound steps taken) none
 
 pub returns : goal.returns
