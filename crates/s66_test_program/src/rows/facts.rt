@@ -18,6 +18,9 @@ const NO_SPLIT: &[&str] = &[
 /// The certificate of such an order.
 const PROVE_NO_SPLIT: &[&str] = &["s66", "prove", "--workers", "1", "--deep", "--nodes", "0"];
 
+/// The certificate of an order by so few splits that one pair is supposed.
+const PROVE_FEW: &[&str] = &["s66", "prove", "--workers", "1", "--deep", "--nodes", "16"];
+
 /// No order takes less than 37, which is found by the last of four searches. With ten splits none of them comes to its end: they make 10,
 /// 10 for a tree, 5 to raise what it shows, and 10.
 const FOUR_SEARCHES: &str =
@@ -142,10 +145,24 @@ pub(crate) const PROOF_ROWS: &[Row] = &[
     ),
     (
         "a certificate by a supposition",
-        &["s66", "prove", "--workers", "1", "--deep", "--nodes", "16"],
+        PROVE_FEW,
         "  DX3 X1-X4\n  IX3 X1+X0\n  DX2 X2-X5\n  FX7 X1*X1\n  LX2 B2,X3\n  BX2 X2*X2\n  BX0 X7*X4\n  BX5 X7*X5\n",
         0,
         "S66 CERTIFICATE 5\nPROFILE 3 3 4 4 3 10 29 8 3 8 1 1 1 1 2 1 2\nBLOCK 8\nI DX3 X1-X4\nI IX3 X1+X0\nI DX2 X2-X5\nI FX7 X1*X1\nI LX2 B2,X3\nI BX2 X2*X2\nI BX0 X7*X4\nI BX5 X7*X5\nTIME 22\nBOUND 22\nORDER 4 1 2 3 7 5 6 8\nA I4 END 10 18 7 8\nB 4 1\nF 1 3\nA 0 END 11 22 6 7 8\nQ\nA I4 END 10 22 6 7 8\nE 4\nEND\n",
+    ),
+    (
+        "a supposition, which forces pairs that force others",
+        PROVE_FEW,
+        "  FX4 X5+X1\n  DX6 X2-X7\n  LX0 B0,X0\n  PX6 B2,X4\n  LX6 B5,X1\n  LX3 B6,X0\n  FX6 X2+X3\n",
+        0,
+        "S66 CERTIFICATE 5\nPROFILE 3 3 4 4 3 10 29 8 3 8 1 1 1 1 2 1 2\nBLOCK 7\nI FX4 X5+X1\nI DX6 X2-X7\nI LX0 B0,X0\nI PX6 B2,X4\nI LX6 B5,X1\nI LX3 B6,X0\nI FX6 X2+X3\nTIME 22\nBOUND 22\nORDER 1 3 2 6 4 5 7\nA 0 I4 0 6 1 2\nF 6 5\nF 6 4\nB 2 1\nF 6 2\nF 1 3\nQ\nF 6 1\nF 2 3\nE 2\nEND\n",
+    ),
+    (
+        "a supposition that a load refutes, and what follows from the pair",
+        PROVE_FEW,
+        "  LX5 B0,X6\n  SX3 B2+B0\n  FX7 X3+X1\n  SX3 X2+B3\n  LX5 B0,X3\n  SX0 B1+B2\n  SX2 B7+B3\n",
+        0,
+        "S66 CERTIFICATE 5\nPROFILE 3 3 4 4 3 10 29 8 3 8 1 1 1 1 2 1 2\nBLOCK 7\nI LX5 B0,X6\nI SX3 B2+B0\nI FX7 X3+X1\nI SX3 X2+B3\nI LX5 B0,X3\nI SX0 B1+B2\nI SX2 B7+B3\nTIME 11\nBOUND 11\nORDER 2 1 3 4 5 6 7\nF 1 4\nF 2 1\nF 2 6\nB 3 1\nF 1 6\nF 3 6\nA 0 END 3 11 4 6 7\nQ\nF 6 5\nF 7 5\nF 3 6\nF 1 6\nA I1 I5 1 6 4 6 7\nE 2\nEND\n",
     ),
     (
         "a tree of 2,374 lines, and a certificate of 15",
