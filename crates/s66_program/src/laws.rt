@@ -81,11 +81,15 @@ pub fn checked_law()
 {}
 
 /// If `check` is done, each document of its input claims what is true: under its own profile its order is legal and takes its
-/// time, and no legal order takes less than its bound.
+/// time, and no legal order takes less than its bound. However it ends, each YES is true, whatever the other verdicts are.
 pub fn done_law()
-    ensures { (texts : Bool) (input text : List ℕ) → IsCheckOutput texts input text Done →
+    ensures done { (texts : Bool) (input text : List ℕ) → IsCheckOutput texts input text Done →
         (ds : List Document) × IsText BLOCK_LIMIT input ds ×
         ((d : Document) → Among d ds → IsTrueClaim d × IsBound (checker.problem_of d) d.bound) }
+    ensures each { (texts : Bool) (input text : List ℕ) (status : Status) → IsCheckOutput texts input text status →
+        (ds : List Document) × IsText BLOCK_LIMIT input ds × (text ≡ verdict_lines texts 0 ds) ×
+        ((d : Document) (time bound : ℕ) → Among d ds → verdict d ≡ Yes time bound →
+        IsTrueClaim d × (time ≡ d.time) × IsBound (checker.problem_of d) bound) }
 {}
 
 /// The worked block of one load, as `order` and `prove` write it, and what `time` and `check` then write; and other documents of it.
