@@ -92,6 +92,8 @@ LISTED = [
     ("SX1 MACRO P|  ENDM|  SX1".ljust(49) + "P(|  SX2 B1", "3 BAD OPERAND SX1 P( (CUT);3 REDEFINED SX1 P( (CUT)", []),
     ("  SKIP 1|" + "  SX6".ljust(26) + "B1|  SA1 B2|  SA3 B3", "1 COUNTS LINES SKIP (CUT);2 FAR OPERAND SX6 B1 (CUT)", []),
     ("SB0 OPSYN SB1|  SX1 B1|  SB0 N|  SX2 B2", "3 REDEFINED SB0 N (CUT)", []),
+    ("LOOP SA1 B1|  NO|  BSS 1|  NO LOOP+1|  LX7 5|  SA1 100B", "2 FALLS INTO DATA NO", [1, 2]),
+    ("L SX1 B1|  SX2 B2|  EQ L+1|  NO L+1", "3 COUNTS WORDS EQ L+1", [1, 2]),
     ("  SX1 B1|  SX2 B2|* C|, X", "", []), ("  SX1 B1|  SX2 B2|, X", "3 BAD OPERAND X (CUT)", []),
 ]
 

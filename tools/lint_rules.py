@@ -51,6 +51,11 @@ def sums_of(operand):
     return [(text, terms_of(text)) for text in re.split("[,/()]", operand)]
 
 
+def operand_of(line):
+    """The operand of a line; what follows a pad is a remark."""
+    return "" if line.kind == PAD else line.operand
+
+
 def has_words(line):
     return line.is_statement and not line.is_long and (line.kind in (INSTRUCTION, PAD) or line.word in WITH_WORDS)
 
@@ -275,7 +280,7 @@ class Names:
 
     def take_lengths(self, at, line):
         """Takes the places M of sums M-L and *-L, for the lines of L."""
-        for _, terms in sums_of(line.operand):
+        for _, terms in sums_of(operand_of(line)):
             taken = [term for sign, term in terms if sign == "-"]
             begins = [place.at for term in taken for place in self.code_at(term, at) + self.of_program(self.entries, term, at)]
             for begin in begins:
@@ -384,7 +389,7 @@ class Findings:
             if line.word != "OPDEF":
                 name = line.location or parameters.pop(0)
                 parameters = [parameter.split("=")[0] for parameter in parameters]
-                sums = [[term for _, term in terms] for at in range(begin + 1, end - 1) for _, terms in sums_of(self.lines[at].operand)]
+                sums = [[term for _, term in terms] for at in range(begin + 1, end - 1) for _, terms in sums_of(operand_of(self.lines[at]))]
                 if self.is_deep(begin, end):
                     sums = [[parameter, None] for parameter in parameters]
                 macros[name] = parameters, sums
@@ -487,7 +492,7 @@ class Findings:
 
     def counted_from_label(self, at):
         found = []
-        for _, terms in sums_of(self.lines[at].operand):
+        for _, terms in sums_of(operand_of(self.lines[at])):
             names = [term for _, term in terms if self.names.is_address(term, at)]
             if len(names) != 1 or HIGH.intersection(term for _, term in terms):
                 continue

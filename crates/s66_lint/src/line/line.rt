@@ -30,6 +30,7 @@ pub(crate) struct Fields<'a> {
 }
 
 impl<'a> Fields<'a> {
+    /// As they are written: what follows a pad stands as its operand.
     fn of(body: &'a [u8]) -> Fields<'a> {
         let fields = fields_of(body);
         let (operation, operand) = operation_and_operand(fields.from_operation);
@@ -47,7 +48,7 @@ pub(crate) struct Line<'a> {
     /// As it is written, and in upper case, without the carriage returns at its end.
     pub(crate) body: &'a [u8],
     pub(crate) letters: &'a [u8],
-    /// Its fields in upper case.
+    /// Its fields in upper case. What follows a pad is a remark, and so no operand.
     pub(crate) fields: Fields<'a>,
     pub(crate) kind: Kind,
     /// It has a comma in column 1, and so no operation of its own.
@@ -56,6 +57,15 @@ pub(crate) struct Line<'a> {
     /// It stands between two switches.
     pub(crate) is_off: bool,
     pub(crate) is_refused: bool,
+}
+
+/// The fields of a line of this kind, which are written so in upper case.
+fn fields_by(kind: Kind, written: Fields<'_>) -> Fields<'_> {
+    let operand: &[u8] = match kind {
+        Kind::Pad => &[],
+        _ => written.operand,
+    };
+    Fields { operand, ..written }
 }
 
 fn kind_of(letters: &[u8], fields: &Fields) -> Kind {
@@ -81,12 +91,13 @@ impl<'a> Line<'a> {
     /// A line as it is written and in upper case, by whether it stands between two switches. It is not refused.
     pub(crate) fn new(is_off: bool, line: &'a [u8], letters: &'a [u8]) -> Line<'a> {
         let letters = body_of(letters);
-        let fields = Fields::of(letters);
+        let written = Fields::of(letters);
+        let kind = kind_of(letters, &written);
         Line {
             body: body_of(line),
             letters,
-            fields,
-            kind: kind_of(letters, &fields),
+            fields: fields_by(kind, written),
+            kind,
             continues: is_continuation(letters),
             is_long: line.len() > LINE_BYTES_LIMIT,
             is_off,
