@@ -24,7 +24,7 @@ from source_rules import COMMAS, COMMENT, INSTRUCTION, MOST, MOST_LINES, OTHER, 
 
 BRANCHES = "RJ JP ZR NZ PL NG MI IR OR DF ID EQ NE GE GT LT LE XJ".split()
 REFUSED = "refused"
-FINDINGS = (r"(?m)^(?:LINE \d+ )?(TOO LONG|TOO MANY LINES|BAD OPERAND|FAR OPERAND|REDEFINED|NOT A COMMENT|NOT AN INSTRUCTION|IN COLUMN|DIRECTIVE|HAS A BODY"
+FINDINGS = (r"(?m)^(?:LINE \d+ )?(TOO LONG|TOO MANY LINES|BAD OPERAND|FAR OPERAND|REDEFINED|NOT A COMMENT|NOT AN INSTRUCTION|IN COLUMN|DIRECTIVE|HAS A BODY|PAST COLUMN 72"
             "|LOADS CODE|STORES INTO CODE|TAKES CODE|PASSES CODE|SKIPS WORDS|JOINS A WORD|COUNTS WORDS|FALLS INTO DATA|ROW OF NO|COUNTS LINES)")
 ADDED = re.compile(rb"(?m)^\*S66 (?:OFF|ON) GUARD.*\n")
 SWITCHED = [["switched", "by", "line"], ["switched", "by", "stretch"]]
@@ -92,6 +92,17 @@ LISTED = [
     ("SX1 MACRO P|  ENDM|  SX1".ljust(49) + "P(|  SX2 B1", "3 BAD OPERAND SX1 P( (CUT);3 REDEFINED SX1 P( (CUT)", []),
     ("  SKIP 1|" + "  SX6".ljust(26) + "B1|  SA1 B2|  SA3 B3", "1 COUNTS LINES SKIP (CUT);2 FAR OPERAND SX6 B1 (CUT)", []),
     ("SB0 OPSYN SB1|  SX1 B1|  SB0 N|  SX2 B2", "3 REDEFINED SB0 N (CUT)", []),
+    ("  SA2 =C/AA" + " B" * 26 + "/|  SX1 B1", "", []), ("  SA2 =C/AA" + " B" * 26 + "/".ljust(80) + "R|  SX1 B1", "", []),
+    ("  SA2 =C/A" + " B" * 27 + "/|  SX1 B1|  BX6 X1", "1 PAST COLUMN 72 SA2 =C/A", [1]), ("  SA2 =C/A" + " B" * 27 + "/|  EQ X", "1 PAST COLUMN 72 SA2 =C/A", [1]),
+    ("  SA2".ljust(20) + "=C/AA" + " B" * 19 + "/", "", []), ("  SA2".ljust(20) + "=C/A" + " B" * 20 + "/", "1 PAST COLUMN 72 SA2 =C/A", [1]),
+    ("L".ljust(24) + "SX6 " + "A" * 45, "1 PAST COLUMN 72 SX6 " + "A" * 45, [1]), ("L".ljust(24) + "SX6 " + "A" * 44, "", []),
+    ("L".ljust(62) + "SX6 " + "A" * 9, f"1 FAR OPERAND SX6 {'A' * 9} (CUT)", []), ("  SX1 B1|  NO " + "A" * 80, "", []),
+    ("ELEVEN.WIDE SX1 B1|  SX6 " + "A" * 57 + "|  SX7 " + "A" * 56, "2 PAST COLUMN 72 SX6 " + "A" * 57, [2]),
+    (" TEN.WIDE. NO|  SX6 " + "A" * 58 + "|L SX7 " + "A" * 58, "2 PAST COLUMN 72 SX6 " + "A" * 58, [2]),
+    ("N MACRO|  SX6 " + "A" * 60 + "|  ENDM", "1 HAS A BODY MACRO (CUT)", []),
+    ("  SKIP 1|  SX6 " + "A" * 60, "1 COUNTS LINES SKIP (CUT);2 PAST COLUMN 72 SX6 " + "A" * 60, []),
+    ("  SX6 " + "A" * 60 + "+", "1 BAD OPERAND SX6 " + "A" * 60 + "+ (CUT)", []), ("*S66 OFF|  SX6 " + "A" * 60, "", [1, 2]),
+    ("SXQ OPDEF|  ENDM|  SX1 N" + "A" * 60, f"3 REDEFINED SX1 N{'A' * 60} (CUT)", []),
     ("LOOP SA1 B1|  NO|  BSS 1|  NO LOOP+1|  LX7 5|  SA1 100B", "2 FALLS INTO DATA NO", [1, 2]),
     ("L SX1 B1|  SX2 B2|  EQ L+1|  NO L+1", "3 COUNTS WORDS EQ L+1", [1, 2]),
     ("  SX1 B1|  SX2 B2|* C|, X", "", []), ("  SX1 B1|  SX2 B2|, X", "3 BAD OPERAND X (CUT)", []),
@@ -287,7 +298,8 @@ def switched_fault(program, text, words):
 
 def characters():
     """Characters with a count, or between two marks, of which the second may be missing; and what may stand behind them."""
-    held = choice("ABRX1 ") + "".join(choices("ABRX19 .+-*/,\t", [4, 4, 2, 2, 2, 1, 9, 1, 1, 1, 1, 1, 1, 1], k=choice([0, 1, 2, 3, 5, 8])))
+    size = choice([0, 1, 2, 3, 5, 8] * 3 + [*range(40, 60)])
+    held = choice("ABRX1 ") + "".join(choices("ABRX19 .+-*/,\t", [4, 4, 2, 2, 2, 1, 9, 1, 1, 1, 1, 1, 1, 1], k=size))
     mark, letter = choice("/*"), choice("ACHLRZCHLRB")
     count = choice([len(held), len(held), len(held), 1, 2, 3, 10, 0, 150])
     text = choice([f"{count}{letter}{held}", f"{count:02}{letter}{held}", f"={letter}{mark}{held}" + choice([mark, mark, mark, ""])])

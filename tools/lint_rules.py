@@ -7,7 +7,7 @@ from collections import namedtuple
 from functools import cache
 
 from certificate import instruction_of
-from source_rules import (BRANCHES, FALL_THROUGH, INSTRUCTION, LETTERS, MOST, MOST_LINES, NO_ADDRESS, OTHER, PAD, REGISTER, Source, names_of, takes,
+from source_rules import (BRANCHES, COLUMN, FALL_THROUGH, INSTRUCTION, LETTERS, MOST, MOST_LINES, NO_ADDRESS, OTHER, PAD, REGISTER, Source, names_of, takes,
                           terms_of)
 
 PARCELS = 4  # of a word
@@ -16,6 +16,7 @@ SKIPPED = 3  # words behind a call that its routine may skip
 FEW = 100  # places of a name that are looked at one by one
 DEEP = 3  # definitions in each other; a macro with so many in its body isn't read
 MOST_MARK = 72  # bytes of a line that `guard` adds
+READ = 72  # bytes of a line that COMPASS reads
 MARK = "*S66 %s GUARD"
 WITH_WORDS = BRANCHES | FALL_THROUGH | {"PS", "SUBR"}
 EVALUATE = set("IFEQ IFNE IFGT IFGE IFLT IFLE IFPL IFMI".split())
@@ -627,6 +628,13 @@ class Findings:
             place = self.deck.before[place]
         return found
 
+    def is_past_end(self, at, line):
+        """Whether an instruction ends past what COMPASS reads, in its own line or where `order` may put it."""
+        run = self.deck.run_of.get(at)
+        if not run or line.kind != INSTRUCTION or self.source.inside[at] or line.is_far() or self.source.is_redefined(at):
+            return False
+        return max(line.operation_at, COLUMN, len(self.lines[run[0]].label) + 1) + line.width > READ
+
     def of_form(self, at, line):
         """What a statement is itself, with the words that are shown."""
         is_other, column = line.kind == OTHER, re.fullmatch(LETTERS + "[0-7]", line.location)
@@ -662,6 +670,8 @@ class Findings:
         both = line.written, line.written_operand
         for words in self.of_form(at, line):
             yield words, None
+        if self.is_past_end(at, line):
+            yield ("PAST COLUMN 72", *both), {at}
         for name, places in self.of_order(at, line):
             if name == "JOINS A WORD" and at in self.joined:
                 yield (name, *both), {at}

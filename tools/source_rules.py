@@ -114,6 +114,7 @@ class Line:
         is_cut = taken is None or text[end + taken : end + taken + 1].strip(" \t") != ""
         behind = "" if is_cut else text[end : end + taken].rstrip(" \t\r")
         self.whole_text = " ".join(filter(None, (self.operation, self.operand))) + behind
+        self.width = end + len(behind) - self.operation_at if self.operand else len(self.operation)  # as it is written
         self.kind = COMMENT if self.is_comment else OTHER
         if self.is_statement and re.fullmatch(LETTERS + "[0-7]", self.operation):
             self.kind = INSTRUCTION

@@ -8,7 +8,7 @@ use Rattle.s66_source.specs.{Reading, SOURCE_LINES_LIMIT}
 use Rattle.s66_lint.specs.Marks.{alone_lines, is_marked}
 use Rattle.s66_lint.specs.declared.finding.Finding.{Finding}
 use Rattle.s66_lint.specs.declared.finding.FindingRule.{FindingRule}
-use Rattle.s66_lint.specs.declared.finding.FindingRule.TheVariants.{TooLong, BadOperand, FarOperand, Redefined, NotAComment, NotAnInstruction, InColumn1, InColumn2, Directive, HasABody, LoadsCode}
+use Rattle.s66_lint.specs.declared.finding.FindingRule.TheVariants.{TooLong, BadOperand, FarOperand, Redefined, NotAComment, NotAnInstruction, InColumn1, InColumn2, Directive, HasABody, PastColumn72, LoadsCode}
 use Rattle.s66_lint.specs.declared.finding.FindingRule.TheVariants.{StoresIntoCode, TakesCode, PassesCode, SkipsWords, JoinsAWord, CountsWords, FallsIntoData, RowOfNo, CountsLines}
 
 abbrev pub rule_words : FindingRule → List ℕ
@@ -22,6 +22,7 @@ rule_words InColumn1 = codes " IN COLUMN 1"
 rule_words InColumn2 = codes " IN COLUMN 2"
 rule_words Directive = codes " DIRECTIVE"
 rule_words HasABody = codes " HAS A BODY"
+rule_words PastColumn72 = codes " PAST COLUMN 72"
 rule_words LoadsCode = codes " LOADS CODE"
 rule_words StoresIntoCode = codes " STORES INTO CODE"
 rule_words TakesCode = codes " TAKES CODE"

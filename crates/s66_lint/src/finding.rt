@@ -27,6 +27,8 @@ pub enum FindingRule {
     Directive,
     /// It begins a definition, or an `ECHO`, that holds an instruction.
     HasABody,
+    /// It ends past column 72, or may be put there.
+    PastColumn72,
     /// It loads the word of an instruction.
     LoadsCode,
     /// It stores into the word of an instruction.

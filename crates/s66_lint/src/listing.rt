@@ -21,6 +21,7 @@ fn words_of(rule: FindingRule) -> &'static [u8]
         FindingRule::InColumn2 => b" IN COLUMN 2",
         FindingRule::Directive => b" DIRECTIVE",
         FindingRule::HasABody => b" HAS A BODY",
+        FindingRule::PastColumn72 => b" PAST COLUMN 72",
         FindingRule::LoadsCode => b" LOADS CODE",
         FindingRule::StoresIntoCode => b" STORES INTO CODE",
         FindingRule::TakesCode => b" TAKES CODE",

@@ -23,6 +23,7 @@ mod remarks;
 mod sum;
 mod suppositions;
 mod time;
+mod unseen;
 mod why;
 mod words;
 
@@ -251,6 +252,11 @@ fn runs_rows_of_remarks(rt: HostRuntime) {
 fn runs_rows_of_documents(rt: HostRuntime) {
     check_rows(&rt, suppositions::ROWS);
     check_rows(&rt, suppositions::REFUSED_ROWS);
+}
+
+#[test]
+fn runs_unseen_rows(rt: HostRuntime) {
+    check_rows(&rt, unseen::ROWS);
 }
 
 /// The profile is refused before anything is read, so also if the input is refused.

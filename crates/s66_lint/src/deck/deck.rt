@@ -110,6 +110,11 @@ impl<'a> Deck<'a> {
         self.runs.is_within_block(at)
     }
 
+    /// How many bytes the label has of the run in which the line at this index stands, if it is in one.
+    pub(crate) fn label_of_run(&self, at: usize) -> Option<usize> {
+        self.runs.label_at(at)
+    }
+
     /// The line at this index, if there is one.
     pub(crate) fn line(&self, at: Option<usize>) -> Option<&'a Line<'a>> {
         self.lines.get(at?)

@@ -2,6 +2,7 @@
 
 use crate::line::{Access, Line};
 use s66_isa::BLOCK_LIMIT;
+use s66_line::fields_of;
 use std::alloc::{AllocError, Global};
 
 /// The instructions and pads of a run, refused lines among them passed over.
@@ -9,6 +10,8 @@ use std::alloc::{AllocError, Global};
 pub(crate) struct Run {
     /// Its first line has a location field.
     is_located: bool,
+    /// How many bytes that has, with the blank before it if it begins in column 2.
+    label: usize,
     instructions: usize,
     has_pads: bool,
     /// What the last instruction reads and writes.
@@ -53,9 +56,11 @@ pub(crate) struct Runs {
     places: Vec<Option<RunPlace>>,
 }
 
-fn begun(is_located: bool) -> Run {
+/// A run before its first line.
+fn begun(first: &Line) -> Run {
     Run {
-        is_located,
+        is_located: first.is_located(),
+        label: fields_of(first.body).label.len(),
         instructions: 0,
         has_pads: false,
         last: None,
@@ -93,7 +98,7 @@ impl Runs {
             if line.is_located() {
                 self.end()?;
             }
-            let run = self.open.unwrap_or(begun(line.is_located()));
+            let run = self.open.unwrap_or(begun(line));
             self.open = Some(run.with(line));
         } else if !(line.is_comment() && !line.is_long || line.is_refused) {
             self.end()?;
@@ -124,6 +129,11 @@ impl Runs {
     /// The number of the run in which the line at this index stands.
     pub(crate) fn number_at(&self, line: usize) -> Option<usize> {
         Some(self.places.get(line).copied()??.run)
+    }
+
+    /// How many bytes the label has of the run in which the line at this index stands.
+    pub(crate) fn label_at(&self, line: usize) -> Option<usize> {
+        Some(self.at(line)?.0.label)
     }
 
     /// Whether the comment at this index is within a block, or between the label of one and it.

@@ -3,6 +3,7 @@
 mod counts_words;
 mod loads_stores;
 mod passes_code;
+mod past_column_72;
 mod rows_of_no;
 mod rules;
 mod skips_words;

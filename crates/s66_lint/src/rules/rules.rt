@@ -143,6 +143,9 @@ impl<'a> Rules<'a> {
         if !line.is_instruction_or_pad() {
             self.push_form(sheet, at, line)?;
         }
+        if !(is_far || is_redefined) {
+            self.push_past_end(sheet, at, line)?;
+        }
         if !names_nothing(line.fields.operand) {
             self.push_named(sheet, at, line)?;
         }
@@ -180,6 +183,20 @@ impl<'a> Rules<'a> {
         }
         let has_body = self.deck.after(at).has_body;
         sheet.push_if(has_body, FindingRule::HasABody, line)
+    }
+
+    /// That an instruction ends where COMPASS reads no more, or may be put there.
+    fn push_past_end(
+        &self,
+        sheet: &mut Sheet<'a, '_>,
+        at: usize,
+        line: &Line<'a>,
+    ) -> Result<(), AllocError> {
+        if !self.deck.before(at).in_definition && self.is_past_end(at, line)? {
+            let finding = LineFinding::of(FindingRule::PastColumn72, line, Harm::Itself);
+            sheet.found.push(finding)?;
+        }
+        Ok(())
     }
 
     /// What a statement does to the words of code that it names.

@@ -209,6 +209,12 @@ pub(crate) const TOLD: &[(&str, &str, &str)] = &[
         "compare",
         ONE_LINE,
     ),
+    ("a literal past column 72", "order", ONE_LINE),
+    (
+        "a literal that is left alone",
+        "guard",
+        "1 place with 1 line is left alone\n",
+    ),
 ];
 
 /// An instruction between directives, and then before them.
