@@ -168,9 +168,9 @@ def order_fault(reading, output):
     return "" if printed == wanted + [""] else f"wanted {wanted}"
 
 
-def listed_line(text, cut):
-    """What is told of the lines that `lint` lists of a source, or nothing if it lists none."""
-    listed = lint_of(text, cut)[0].count(b"\n")
+def listed_line(cut, *texts):
+    """What is told of the lines that `lint` lists of some sources, or nothing if it lists none."""
+    listed = sum(lint_of(text, cut)[0].count(b"\n") for text in texts)
     many = "s" * (listed > 1)
     if cut:
         line = f"s66 lint --cut lists {listed} finding{many}; s66 guard puts switches around the code\n"
@@ -191,7 +191,7 @@ def remark_of(words, text, reading, reports):
     """What is told of a source after a success, by the reports of its blocks."""
     why = "an instruction's operation begins in column 3 or later" if text else "the source is empty"
     told = "" if reading.blocks else f"no block: {why}\n"
-    return told + (listed_line(text, "--cut" in words) + bounded_line(reports) if words[0] == "order" else "")
+    return told + (listed_line("--cut" in words, text) + bounded_line(reports) if words[0] == "order" else "")
 
 
 def fault_of(words, text, seen):

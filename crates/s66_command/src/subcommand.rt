@@ -179,7 +179,7 @@ pub(crate) const SUBCOMMANDS: &[SubcommandRow] = &[
                 "strict",
                 Flag,
                 "Ends with 8, where it would with 0, if lint lists lines\n\
-                 of OLD that order may harm",
+                 of OLD or NEW, and counts those of both",
             ),
             (
                 "text",
@@ -194,7 +194,7 @@ pub(crate) const SUBCOMMANDS: &[SubcommandRow] = &[
         help_ending!(
             "s66 compare --cut < SOURCES",
             "a source or the profile was refused",
-            ",\n        5 something else is changed, 8 lint lists lines of OLD (--strict)"
+            ",\n        5 something else is changed, 8 lint lists lines (--strict)"
         ),
     ),
     (

@@ -1,6 +1,5 @@
 pub mod Calls
 pub mod CheckedAnswers
-pub mod CountedSources
 pub mod Dependences
 pub mod FoundAnswers
 pub mod Fronts

@@ -69,7 +69,7 @@ pub use Hints.{source_way_out, way_out}
 pub use Comparing.{IsNewRefusal, IsCompareRefusal}
 pub use Output.{IsUnder, source_in, IsAskedOutput, IsOutput, is_source, reads_source, shows_blocks}
 pub use Remarks.{lines_word, found_words, lint_words, listed_line, regions_line, missing_line, remark_text, asks_for_facts, bounded_line, told_text, IsTold, prints_orders, without_blocks, without_block}
-pub use Remarks.{missing_of_source, missing_of_documents, counted_source, IsCount, IsRemark, raised}
+pub use Remarks.{missing_of_source, missing_of_documents, counted_sources, IsCount, AreCounts, IsRemark, raised}
 pub use Run.{IsRefusal, IsOutcomeUnder, IsProfileFault, IsOutcome}
 pub use Ends.{EndsAt, EndsWith, EndsByFault, ShowsUsage, LacksWords}
 pub use Program.{IsRun}

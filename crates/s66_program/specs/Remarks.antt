@@ -1,10 +1,11 @@
 -- To be believed: what is told of an input after a success, what standard error gets of that, and the status by it.
-use Rattle.std.specs.Prelude.{ℕ, ◌≡◌, ◌==◌, ◌&&◌, Bool, true, false, if◌then◌else◌, List, [], ◌∷◌, ◌++◌, Option, None, Some, Result, Ok, Err, codes, decimal, length, nat_lt, option_map, unwrap_or}
+use Rattle.std.specs.Prelude.{ℕ, ◌≡◌, ◌+◌, ◌==◌, ◌&&◌, Bool, true, false, if◌then◌else◌, List, [], ◌∷◌, ◌++◌, Option, None, Some, Result, Ok, Err, codes, decimal, length, nat_lt, option_map, unwrap_or}
 use Rattle.std.specs.Prelude.{is_some}
 use Rattle.s66_command.specs.{Command, Asked, Guard, Reads, Documents, Sources, Strategy, reads_cut, reads_of, strategy_of}
 use Rattle.s66_device.specs.{IsUntouched, Writer}
 use Rattle.s66_line.specs.{Block, lines_of}
 use Rattle.s66_source.specs.{SourceError, halves_of, Reading, source_of}
+use Rattle.s66_source.specs.Halves.{Halves}
 use Rattle.s66_lint.specs.{IsGuard, IsFindings}
 use Rattle.s66_answer.specs.{Status, Bounded, Denied, Done, Listed}
 use Rattle.s66_program.specs.declared.remark.Ended.{Ended}
@@ -115,16 +116,27 @@ abbrev pub are_sources : Reads → Bool
 are_sources Sources = true
 are_sources reads = false
 
--- the source that `lint` may list lines of: the one whose best orders are looked for or, of two, the old one
-abbrev pub counted_source : Command → (input : List ℕ) → Option Reading
-counted_source command input =
-    if prints_orders command then Some (source_in command input)
-    else (if are_sources (reads_of command.asked) then option_map (λ halves. source_in command halves.old) (halves_of input) else None)
+-- of two sources the old one, and with `--strict` the new one too
+abbrev pub counted_halves : Command → Option Halves → List Reading
+counted_halves command (Some halves) =
+    source_in command halves.old ∷ (if command.strict then source_in command halves.new ∷ [] else [])
+counted_halves command None = []
 
--- how many lines a text has that `lint` may write for a source, with `--cut` or without, or nothing of that
-abbrev pub IsCount : Option Reading → (listed : ℕ) → Type 0
-IsCount (Some source) listed = (text : List ℕ) × IsFindings source text × (listed ≡ length (lines_of text))
-IsCount None listed = listed ≡ 0
+-- the sources that `lint` may list lines of: the one whose best orders are looked for or, of two, those
+abbrev pub counted_sources : Command → (input : List ℕ) → List Reading
+counted_sources command input =
+    if prints_orders command then source_in command input ∷ []
+    else (if are_sources (reads_of command.asked) then counted_halves command (halves_of input) else [])
+
+-- how many lines a text has that `lint` may write for a source, with `--cut` or without
+abbrev pub IsCount : Reading → (listed : ℕ) → Type 0
+IsCount source listed = (text : List ℕ) × IsFindings source text × (listed ≡ length (lines_of text))
+
+-- how many lines there are of all these sources
+abbrev pub AreCounts : List Reading → (listed : ℕ) → Type 0
+AreCounts [] listed = listed ≡ 0
+AreCounts (source ∷ sources) listed =
+    (own others : ℕ) × IsCount source own × AreCounts sources others × (listed ≡ own + others)
 
 -- how many regions of an input `guard` put between switches in the text that it wrote, and how many lines they have; of others none
 abbrev pub AreRegions : Asked → (input text : List ℕ) → (regions lines : ℕ) → Type 0
@@ -134,7 +146,7 @@ AreRegions asked input text regions lines = (regions ≡ 0) × (lines ≡ 0)
 -- what is told after a command has written this text for this input
 abbrev pub IsRemark : Command → (input text : List ℕ) → Remark → Type 0
 IsRemark command input text r =
-    (r.missing ≡ missing_in command input) × (r.cut ≡ reads_cut command) × IsCount (counted_source command input) r.listed
+    (r.missing ≡ missing_in command input) × (r.cut ≡ reads_cut command) × AreCounts (counted_sources command input) r.listed
     × AreRegions command.asked input text r.regions r.lines
 
 -- THE STATUS

@@ -17,7 +17,7 @@ use crate::order_text::ordered_output;
 use crate::page_text::page_output;
 use crate::prove_text::prove_output;
 use crate::remark::{
-    Finished, Missing, listed_of_old, missing_of_documents, remark_of, remark_with,
+    Finished, Missing, listed_of_halves, missing_of_documents, remark_of, remark_with,
 };
 use crate::sum_text::sum_output;
 use crate::time_text::time_output;
@@ -103,7 +103,7 @@ fn sources_output(
         IsRemark command.entry input.now finished.output.text.items finished.remark) }
     ensures err { IfErr result (IsRefusal command.entry input.now) }
 {
-    let listed = listed_of_old(alloc, command, input)?;
+    let listed = listed_of_halves(alloc, command, input)?;
     let remark = remark_with(command, Missing::Nothing, listed);
     let output = compare_output(alloc, command.reads_cut(), profile, view, input)?;
     Ok(Finished { output, remark })

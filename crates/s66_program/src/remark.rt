@@ -5,7 +5,7 @@ ghost use Rattle.std.specs.Prelude.{ℕ, List, [], ◌≡◌, ◌==◌, ◌<◌,
 ghost use Rattle.s66_command.specs.{reads_cut, reads_of};
 ghost use Rattle.s66_command.specs.declared.command.Reads.TheVariants as reads;
 ghost use Rattle.s66_source.specs.{source_of};
-ghost use Rattle.s66_program.specs.{shows_blocks, source_in, IsCount, IsRemark, bounded_line, counted_source, found_words, asks_for_facts, lines_word, lint_words, listed_line, missing_line};
+ghost use Rattle.s66_program.specs.{shows_blocks, source_in, AreCounts, IsCount, IsRemark, bounded_line, counted_sources, found_words, asks_for_facts, lines_word, lint_words, listed_line, missing_line};
 ghost use Rattle.s66_program.specs.{missing_of_documents, missing_of_source, prints_orders, raised, regions_line, without_block, without_blocks};
 ghost use Rattle.s66_program.specs.declared.remark.Missing.TheVariants as missing;
 
@@ -310,35 +310,61 @@ pub(crate) fn missing_of_documents(text: &[u8]) -> Missing
 
 /// How many lines `lint` lists of a source.
 fn listed_in(alloc: Global, source: &[u8], cut: bool) -> Result<usize, AllocError>
-    ensures { IfOk result (IsCount (Some (record { cut = cut; text = source.now }))) }
+    ensures { IfOk result (IsCount (record { cut = cut; text = source.now })) }
 {
     Ok(findings_in(alloc, source, cut)?.lines)
+}
+
+/// How many lines `lint` lists of two sources, the second only if it is asked for.
+fn listed_in_both(
+    alloc: Global,
+    old: &[u8],
+    new: &[u8],
+    both: bool,
+    cut: bool,
+) -> Result<usize, AllocError>
+    ensures { IfOk result (AreCounts (record { cut = cut; text = old.now } ∷
+        (if both then record { cut = cut; text = new.now } ∷ [] else []))) }
+{
+    let of_old = listed_in(alloc, old, cut)?;
+    if !both {
+        return Ok(of_old);
+    }
+    let of_new = listed_in(alloc, new, cut)?;
+    // memory holds no more lines than a number counts
+    of_old.checked_add(of_new).ok_or(AllocError)
 }
 
 /// How many lines `lint` lists of the only source of an input, or 0 if that isn't told.
 fn listed_of(alloc: Global, command: Command, input: &[u8]) -> Result<usize, AllocError>
     requires { reads_of command.asked ≡ reads.Source }
-    ensures { IfOk result (IsCount (counted_source command.entry input.now)) }
+    ensures { IfOk result (AreCounts (counted_sources command.entry input.now)) }
 {
-    if prints_orders(command) {
-        listed_in(alloc, input, command.reads_cut())
-    } else {
-        Ok(0)
+    if !prints_orders(command) {
+        return Ok(0);
     }
+    let listed = listed_in(alloc, input, command.reads_cut())?;
+    Ok(listed)
 }
 
-/// How many lines `lint` lists of the old source of two.
-pub(crate) fn listed_of_old(
+/// How many lines `lint` lists of the old source of two, and if it is to be strict of the new one too.
+pub(crate) fn listed_of_halves(
     alloc: Global,
     command: Command,
     input: &[u8],
 ) -> Result<usize, AllocError>
     requires prints { prints_orders command ≡ false }
     requires reads { reads_of command.asked ≡ reads.Sources }
-    ensures { IfOk result (IsCount (counted_source command.entry input.now)) }
+    ensures { IfOk result (AreCounts (counted_sources command.entry input.now)) }
 {
     match halves_of(input) {
-        Some(halves) => listed_in(alloc, halves.old, command.reads_cut()),
+        Some(halves) => listed_in_both(
+            alloc,
+            halves.old,
+            halves.new,
+            command.strict,
+            command.reads_cut(),
+        ),
         None => Ok(0),
     }
 }

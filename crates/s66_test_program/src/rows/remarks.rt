@@ -205,15 +205,38 @@ pub(crate) const TOLD: &[(&str, &str, &str)] = &[
     ("an instruction is moved out of *IF", "compare", TWO_LINES),
     ("a store is moved into code", "compare", TWO_FINDINGS),
     (
+        "an instruction is moved out of *IF, strictly",
+        "compare",
+        "s66 lint lists 4 lines that order may harm\n",
+    ),
+    (
+        "a store is moved into code, strictly",
+        "compare",
+        "s66 lint --cut lists 4 findings; s66 guard puts switches around the code\n",
+    ),
+    (
         "code is changed, and the old source counts words",
         "compare",
-        ONE_LINE,
+        "s66 lint lists 4 lines that order may harm\n",
     ),
+    ("the new source alone counts words", "compare", ONE_LINE),
     ("a literal past column 72", "order", ONE_LINE),
     (
         "a literal that is left alone",
         "guard",
         "1 place with 1 line is left alone\n",
+    ),
+    ("the new source has a directive", "compare", ONE_LINE),
+    (
+        "the new source has an operand that isn't seen",
+        "compare",
+        ONE_LINE,
+    ),
+    ("both sources count words", "compare", TWO_LINES),
+    (
+        "the new source alone is past column 72",
+        "compare",
+        "s66 lint --cut lists 1 finding; s66 guard puts switches around the code\n",
     ),
 ];
 
@@ -388,7 +411,7 @@ pub(crate) const PAIR_ROWS: &[Row] = &[
         "BLOCK 1 LINE 1 COUNT 3 TIME 12 NEW LINE 1 COUNT 3 TIME 12 SAME\nTOTAL BLOCKS 1 TIME 12 NEW BLOCKS 1 TIME 12 LEGAL 1\n",
     ),
     (
-        "an instruction is moved out of *IF",
+        "an instruction is moved out of *IF, strictly",
         &["s66", "compare", "--strict"],
         OUT_OF_IF,
         8,
@@ -409,7 +432,7 @@ pub(crate) const PAIR_ROWS: &[Row] = &[
         "BLOCK 1 LINE 1 COUNT 4 TIME 8 NEW LINE 1 COUNT 4 TIME 9 ORDER 2 1 4 3\nTOTAL BLOCKS 1 TIME 8 NEW BLOCKS 1 TIME 9 LEGAL 1\n",
     ),
     (
-        "a store is moved into code",
+        "a store is moved into code, strictly",
         &["s66", "compare", "--cut", "--strict"],
         INTO_CODE,
         8,

@@ -1,11 +1,23 @@
-//! Rows of what COMPASS doesn't see: what ends past column 72 or is put there, and what follows a `NO`.
+//! Rows of what COMPASS doesn't see: what ends past column 72 or is put there, what follows a `NO`, and what `compare` can't see in the
+//! new source.
 
 use crate::rows::Row;
 use crate::running::{GUARD, LINT, ORDER};
 
+const STRICT: &[&str] = &["s66", "compare", "--strict"];
+
+const STRICT_CUT: &[&str] = &["s66", "compare", "--strict", "--cut"];
+
 /// The operand ends in column 67, and would end in column 75 behind ten blanks.
 const LONG_LITERAL: &str =
     "  SX1 B1\n  SA2 =C/A B C D E F G H I J K L M N O P Q R S T U V W X Y Z A B C/\n";
+
+const CALL_IN_NEW: &str = "  BX6 X1\n  BX7 X2\n*S66 NEW\n  BX6 X1\n*CALL COMX\n  BX7 X2\n";
+
+const FAR_IN_NEW: &str = "  SX6 B1\n*S66 NEW\n  SX6                              B1\n";
+
+const LONG_IN_NEW: &str =
+    "  SX6 AAAAAAAAAABBBBBBBBBBCCCCCCCCCCDDDDDDDDDDEEEEE\n*S66 NEW\n                        SX6 AAAAAAAAAABBBBBBBBBBCCCCCCCCCCDDDDDDDDDDEEEEE\n";
 
 pub(crate) const ROWS: &[Row] = &[
     (
@@ -56,5 +68,40 @@ pub(crate) const ROWS: &[Row] = &[
         "LOOP SA1 B1\n  NO\n  BSS 1\n  NO LOOP+1\n  LX7 5\n  SA1 100B\n",
         8,
         "LINE 2 FALLS INTO DATA NO\n",
+    ),
+    (
+        "the new source has a directive",
+        STRICT,
+        CALL_IN_NEW,
+        8,
+        "BLOCK 1 LINE 1 COUNT 2 TIME 8 NEW LINE 1 COUNT 2 TIME 8 SAME\nTOTAL BLOCKS 1 TIME 8 NEW BLOCKS 1 TIME 8 LEGAL 1\n",
+    ),
+    (
+        "the new source has an operand that isn't seen",
+        STRICT,
+        FAR_IN_NEW,
+        8,
+        "BLOCK 1 LINE 1 COUNT 1 TIME 4 NEW LINE 1 COUNT 1 TIME 4 SAME\nTOTAL BLOCKS 1 TIME 4 NEW BLOCKS 1 TIME 4 LEGAL 1\n",
+    ),
+    (
+        "the new source has a directive, not strictly",
+        &["s66", "compare"],
+        CALL_IN_NEW,
+        0,
+        "BLOCK 1 LINE 1 COUNT 2 TIME 8 NEW LINE 1 COUNT 2 TIME 8 SAME\nTOTAL BLOCKS 1 TIME 8 NEW BLOCKS 1 TIME 8 LEGAL 1\n",
+    ),
+    (
+        "both sources count words",
+        STRICT,
+        "  BX1 X2\n  BX6 X3\n  NZ X1,*-1\n*S66 NEW\n  BX6 X3\n  BX1 X2\n  NZ X1,*-1\n",
+        8,
+        "BLOCK 1 LINE 1 COUNT 2 TIME 8 NEW LINE 1 COUNT 2 TIME 8 ORDER 2 1\nTOTAL BLOCKS 1 TIME 8 NEW BLOCKS 1 TIME 8 LEGAL 1\n",
+    ),
+    (
+        "the new source alone is past column 72",
+        STRICT_CUT,
+        LONG_IN_NEW,
+        8,
+        "BLOCK 1 LINE 1 COUNT 1 TIME 4 NEW LINE 1 COUNT 1 TIME 4 SAME\nTOTAL BLOCKS 1 TIME 4 NEW BLOCKS 1 TIME 4 LEGAL 1\n",
     ),
 ];
