@@ -1,8 +1,8 @@
--- A line that is left alone is of no block.
-use Rattle.std.proofs.Common.{◌≡◌, ◌&&◌, ◌||◌, ℕ, zero, suc, Bool, true, false, true≢false, if◌then◌else◌, List, [], ◌∷◌, Some, refl, sym, ap, ap₂, ◌∙◌, slice_get}
+-- A line that is left alone is of no block, so it is copied.
+use Rattle.std.proofs.Common.{◌≡◌, ◌&&◌, ◌||◌, ℕ, zero, suc, Bool, true, false, true≢false, if◌then◌else◌, List, [], ◌∷◌, Option, Some, refl, sym, ap, ap₂, ◌∙◌, slice_get}
 use Rattle.s66_line.specs.{is_code, is_instruction, ends_run, Class, Comment, Other, Refused, Pad, Instruction}
 use Rattle.s66_source.specs.{Flagged, Reading, class_at, flagged_lines, begun, owner, has_block, is_comment_class, is_leading, is_pad_class, Line, blocks_of, classed_lines, classes_from, label_after}
-use Rattle.s66_source.specs.{label_at, place_after, place_at, run_after, run_at}
+use Rattle.s66_source.specs.{label_at, place_after, place_at, run_after, run_at, begins, copied_line, line_text, text_for}
 use Rattle.s66_source.proofs.LineLaw.{no-note_in}
 
 abbrev IsOther : Line → Flagged → Type 0
@@ -40,3 +40,7 @@ pub alone-none : (source : Reading) (k : ℕ) (m : Flagged) → slice_get (flagg
 alone-none source k m at alone =
     let (line, here, (bytes, other)) = alone-at (flagged_lines source) 1 0 0 [] false k m at in
     (line, here, bytes, other-none (classed_lines source) line (other alone))
+
+-- whatever stands in the places of blocks
+pub none-copied : (all : List Line) (l : Line) → owner all l ≡ 0 → (texts : List (Option (List ℕ))) → line_text (begins all l) (text_for texts (owner all l)) l ≡ copied_line l
+none-copied all l none texts = ap (λ number. line_text (begins all l) (text_for texts number) l) none

@@ -6,7 +6,7 @@ ghost use Rattle.s66_line.specs.{is_newline, upper, body, from_operation, lines_
 ghost use Rattle.s66_line.specs.{is_instruction};
 ghost use Rattle.s66_source.specs.{indent, indented_lines, indents, Own, Usual, upper_read, cover_of, Flagged, Reading, flagged_lines, is_directive, is_off_switch, plain, BadOperand, Nothing, Lines};
 ghost use Rattle.s66_source.specs.{ToItsEnd, Line, classed_lines, instructions, parts_of, blocks_of, source_of, AreParts, Placed, instruction_lines, label_field, AreComplete, AreGivenAgain, AreGiven};
-ghost use Rattle.s66_source.specs.{owner, printed_in, is_note, is_note_of, is_dropped, is_copied, roles, lines_that, mixed_source, outside_source};
+ghost use Rattle.s66_source.specs.{begins, copied_line, line_text, owner, text_for, printed_in, is_note, is_note_of, is_dropped, is_copied, roles, lines_that, mixed_source, outside_source};
 ghost use Rattle.s66_source.specs.declared.columns.Columns.{Columns};
 
 /// Lower case reads as upper case. Texts that differ only in the case of letters have the same blocks but for the case of letters
@@ -58,11 +58,13 @@ pub fn read_again_law()
         AreGivenAgain blocks given again }
 {}
 
-/// A line that is left alone is of no block, so it is printed as it was read.
+/// A line that is left alone is of no block: whatever stands in the places of blocks, it is printed as it was read, without the carriage
+/// returns at its end.
 pub fn alone_law()
     ensures { (source : Reading) (k : ℕ) (m : Flagged) → slice_get (flagged_lines source) k ≡ Some m → m.alone ≡ true →
         (line : Line) × (slice_get (classed_lines source) k ≡ Some line) × (line.bytes ≡ m.bytes) ×
-        (owner (classed_lines source) line ≡ 0) }
+        (owner (classed_lines source) line ≡ 0) × ((texts : List (Option (List ℕ))) →
+        line_text (begins (classed_lines source) line) (text_for texts (owner (classed_lines source) line)) line ≡ copied_line line) }
 {}
 
 /// An operation in the usual column is printed as without the option. A line whose operation keeps its column is read as the
