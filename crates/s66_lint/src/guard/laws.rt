@@ -1,8 +1,8 @@
 //! A source with switches around the lines that are marked, read again: contracts of functions that do nothing.
 
-ghost use Rattle.std.specs.Prelude.{◌≡◌, ℕ, Bool, Some, List, [], ◌∷◌, ◌++◌, true, false, codes, length, map, replicate, slice_get};
+ghost use Rattle.std.specs.Prelude.{◌≡◌, ℕ, Bool, Option, Some, List, [], ◌∷◌, ◌++◌, true, false, codes, length, map, replicate, slice_get};
 ghost use Rattle.s66_line.specs.{lines_of};
-ghost use Rattle.s66_source.specs.{Flagged, flagged_lines, plain, owner, Line, classed_lines};
+ghost use Rattle.s66_source.specs.{Flagged, flagged_lines, plain, owner, Line, classed_lines, begins, copied_line, line_text, text_for};
 ghost use Rattle.s66_lint.specs.{Begins, Mark, GuardedLine, flag_of, guarded_bytes, guarded, guarded_flags, guarded_lines, is_left_alone, source_lines, unmarked};
 
 /// The lines of what is printed are those of the source, in order and each once, and lines that were added.
@@ -24,13 +24,16 @@ pub fn guarded_law()
         flagged_lines (plain (guarded marks text)) ≡ map flag_of (guarded_lines marks text) }
 {}
 
-/// A line of what is printed that is left alone without `--cut` is of no block, with `--cut` or without it: so `order` copies it to the byte.
+/// A line of what is printed that is left alone without `--cut` is of no block, with `--cut` or without it: so `order` copies it, without
+/// the carriage returns at its end.
 pub fn guard_kept_law()
     ensures { (marks : List Mark) (text : List ℕ) (cut : Bool) (k : ℕ) (written : GuardedLine) →
         slice_get (guarded_lines marks text) k ≡ Some written → is_left_alone written ≡ true → (line : Line) ×
         (slice_get (classed_lines (record { cut = cut; text = guarded marks text })) k ≡ Some line) ×
         (line.bytes ≡ guarded_bytes written) ×
-        (owner (classed_lines (record { cut = cut; text = guarded marks text })) line ≡ 0) }
+        (owner (classed_lines (record { cut = cut; text = guarded marks text })) line ≡ 0) ×
+        ((texts : List (Option (List ℕ))) → line_text (begins (classed_lines (record { cut = cut; text = guarded marks text })) line)
+        (text_for texts (owner (classed_lines (record { cut = cut; text = guarded marks text })) line)) line ≡ copied_line line) }
 {}
 
 /// Small sources. Regions with two reasons, with one, and with none, of which the last is at the end; one that a switch ON parts; one that
