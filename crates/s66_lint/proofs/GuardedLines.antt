@@ -1,21 +1,20 @@
 -- The lines of a source with switches around those that are marked, read again.
-use Rattle.std.proofs.Common.{◌≡◌, ◌==◌, ◌||◌, ◌&&◌, ℕ, zero, suc, Bool, true, false, not, cond, if◌then◌else◌, List, [], ◌∷◌, ◌++◌, map, drop, take, Some, refl, sym, ap, ap₂, ◌∙◌, slice_get}
-use Rattle.std.proofs.Common.{option_map, take_while, filter}
-use Rattle.std.proofs.lemmas.Bool.{and_parts, and_from}
-use Rattle.std.proofs.lemmas.List.Sums.{take_while-cons}
+use Rattle.std.proofs.Common.{◌≡◌, ◌==◌, ◌||◌, ◌&&◌, ℕ, zero, suc, Bool, true, false, true≢false, not, if◌then◌else◌, List, [], ◌∷◌, ◌++◌, map, drop, Some, refl, sym, ap, ap₂, ◌∙◌, slice_get}
+use Rattle.std.proofs.Common.{option_map, filter}
+use Rattle.std.proofs.lemmas.Bool.{and_parts, and_from, eqb-true}
 use Rattle.std.proofs.lemmas.Option.{slice_get-map}
 use Rattle.s66_isa.specs.{every}
-use Rattle.s66_line.specs.{class_of, body, continues, is_comment, is_newline, is_trailing, lines_of, operation, upper}
+use Rattle.s66_device.specs.{is_control, printable, printable_byte}
+use Rattle.s66_line.specs.{class_of, body, continues, is_comment, is_newline, lines_of, operation, upper}
 use Rattle.s66_line.proofs.Wholes.{AreLines-lines_of}
 use Rattle.s66_source.specs.{counting_text, is_one_of, with_cover, Flagged, Reading, after_line, after_operation, at_first, directive_cover, flagged_from, flagged_lines, has_operation, is_alone}
 use Rattle.s66_source.specs.{is_continued, is_directive, is_doubtful, is_off_switch, is_on_switch, off_after, plain, redefined_by, with_directive, Covered, Redefined, defined_by, forming, is_short}
 use Rattle.s66_source.specs.{nothing_redefined, redefined_in, renaming, owner, Line, classed_lines, Standing}
 use Rattle.s66_source.proofs.DefinedNames.{defined_by-append}
 use Rattle.s66_source.proofs.FlaggedLines.{bytes-flagged}
-use Rattle.s66_source.proofs.ReadLine.{every-trimmed}
 use Rattle.s66_source.proofs.AloneLines.{alone-none}
 use Rattle.s66_lint.specs.{Begins, Ends, Kept, Mark, MarkedLine, GuardedLine, beginnings, between, guarded_bytes, flag_of, guarded, guarded_flags, guarded_lines, is_left_alone, marked_line}
-use Rattle.s66_lint.specs.{marked_lines, read_flags, shown_reason, source_lines, unmarked, written_from, after_blank, REASON_LIMIT}
+use Rattle.s66_lint.specs.{marked_lines, read_flags, shown_reason, source_lines, unmarked, written_from, after_blank}
 use Rattle.s66_lint.proofs.SwitchedLines.{at_plain, is_one_line, lines_of-with_newlines, standing}
 
 -- THE LINES OF THE SOURCE are kept
@@ -49,30 +48,21 @@ same-source marks text = ap (map (λ (m : Flagged). m.bytes)) (same-lines marks 
 
 -- EACH LINE IS ONE LINE
 
-every-taken : (test : ℕ → Bool) (n : ℕ) (bytes : List ℕ) → every test bytes ≡ true → every test (take n bytes) ≡ true
-every-taken test zero bytes h = refl
-every-taken test (suc n) [] h = refl
-every-taken test (suc n) (b ∷ bytes) h =
-    let (here, rest) = and_parts (test b) (every test bytes) h in
-    and_from (test b) (every test (take n bytes)) here (every-taken test n bytes rest)
+inside-printable : (b : ℕ) → not (is_newline (printable_byte b)) ≡ true
+inside-printable b = by (is_control b) (b == 10) refl refl
+  where
+    by : (control newline : Bool) → is_control b ≡ control → (b == 10) ≡ newline → not (is_newline (if control then 63 else b)) ≡ true
+    by true newline is at = refl
+    by false true is at = absurd (true≢false (sym (ap is_control (eqb-true b 10 at)) ∙ is))
+    by false false is at = rw at refl
 
-first-passes : (t : Bool) (test : ℕ → Bool) (b : ℕ) (more : List ℕ) → test b ≡ t → every test more ≡ true → every test (cond t (b ∷ more) []) ≡ true
-first-passes true test b more stated h = and_from (test b) (every test more) stated h
-first-passes false test b more stated h = refl
+one-printable : (bytes : List ℕ) → is_one_line (printable bytes) ≡ true
+one-printable [] = refl
+one-printable (b ∷ bytes) = and_from (not (is_newline (printable_byte b))) (is_one_line (printable bytes)) (inside-printable b) (one-printable bytes)
 
-every-while : (test : ℕ → Bool) (bytes : List ℕ) → every test (take_while test bytes) ≡ true
-every-while test [] = refl
-every-while test (b ∷ bytes) = rw (take_while-cons test b bytes) (first-passes (test b) test b (take_while test bytes) refl (every-while test bytes))
-
-abbrev is_inside : ℕ → Bool
-is_inside b = not (is_newline b)
-
-one-shown : (reason : List ℕ) → is_one_line (shown_reason reason) ≡ true
-one-shown reason = every-trimmed is_inside is_trailing (take REASON_LIMIT (take_while is_inside reason)) (every-taken is_inside REASON_LIMIT (take_while is_inside reason) (every-while is_inside reason))
-
-one-after_blank : (word : List ℕ) → is_one_line word ≡ true → is_one_line (after_blank word) ≡ true
-one-after_blank [] h = refl
-one-after_blank (b ∷ word) h = h
+one-after_blank : (word : List ℕ) → is_one_line (after_blank word) ≡ true
+one-after_blank [] = refl
+one-after_blank (b ∷ word) = one-printable (b ∷ word)
 
 abbrev AreOneLines : List GuardedLine → Type 0
 AreOneLines lines = every is_one_line (map guarded_bytes lines) ≡ true
@@ -80,7 +70,7 @@ AreOneLines lines = every is_one_line (map guarded_bytes lines) ≡ true
 one-begins : (reasons : List (List ℕ)) (rest : List GuardedLine) → AreOneLines rest → AreOneLines (map Begins reasons ++ rest)
 one-begins [] rest h = h
 one-begins (reason ∷ reasons) rest h =
-    and_from (is_one_line (guarded_bytes (Begins reason))) (every is_one_line (map guarded_bytes (map Begins reasons ++ rest))) (one-after_blank (shown_reason reason) (one-shown reason)) (one-begins reasons rest h)
+    and_from (is_one_line (guarded_bytes (Begins reason))) (every is_one_line (map guarded_bytes (map Begins reasons ++ rest))) (one-after_blank (shown_reason reason)) (one-begins reasons rest h)
 
 one-between : (inside here : Bool) (reasons : List (List ℕ)) (rest : List GuardedLine) → AreOneLines rest → AreOneLines (between inside here reasons ++ rest)
 one-between false false reasons rest h = h
@@ -364,7 +354,7 @@ flags-too s t (line ∷ lines) zero m same at alone =
 flags-too s t (line ∷ lines) (suc k) m same at alone =
     flags-too (after_line false s line) (after_line true t line) lines k m (ap (λ off. off_after off (body line)) same) at alone
 
--- A LINE THAT IS LEFT ALONE is copied, to the byte
+-- A LINE THAT IS LEFT ALONE is of no block
 
 abbrev IsOfNone : Reading → ℕ → List ℕ → Type 0
 IsOfNone source k bytes = (line : Line) × (slice_get (classed_lines source) k ≡ Some line) × (line.bytes ≡ bytes) × (owner (classed_lines source) line ≡ 0)

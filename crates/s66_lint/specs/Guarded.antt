@@ -43,7 +43,8 @@ pub data GuardedLine : Type 0 where
   Ends : GuardedLine
   Kept : Bool → Flagged → GuardedLine
 
--- what a line says of a reason: one line, cut where the added line would be longer than 72 bytes, and without blanks at its end
+-- what a line says of a reason, but for control characters (`after_blank`): one line, cut where the added line would be longer than 72
+-- bytes, and without blanks at its end
 abbrev pub shown_reason : List ℕ → List ℕ
 shown_reason reason = trim is_trailing (take REASON_LIMIT (take_while (λ b. not (is_newline b)) reason))
 

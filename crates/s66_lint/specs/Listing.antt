@@ -3,6 +3,7 @@
 --
 -- Which findings there are isn't defined: they are advice, and `FORMATS.md` says what they are.
 use Rattle.std.specs.Prelude.{◌≡◌, ℕ, suc, Bool, true, false, ◌&&◌, not, if◌then◌else◌, List, [], ◌∷◌, ◌++◌, codes, decimal, length, min, nat_le, nat_lt}
+use Rattle.s66_device.specs.{printable}
 use Rattle.s66_line.specs.{lines_of}
 use Rattle.s66_source.specs.{Reading, SOURCE_LINES_LIMIT}
 use Rattle.s66_lint.specs.Marks.{alone_lines, is_marked}
@@ -34,9 +35,10 @@ rule_words FallsIntoData = codes " FALLS INTO DATA"
 rule_words RowOfNo = codes " ROW OF NO"
 rule_words CountsLines = codes " COUNTS LINES"
 
+-- a word after a blank, if there is one, with `?` for each control character
 abbrev pub after_blank : List ℕ → List ℕ
 after_blank [] = []
-after_blank (b ∷ word) = 32 ∷ b ∷ word
+after_blank (b ∷ word) = 32 ∷ printable (b ∷ word)
 
 -- what was found in the line of a number, with up to two words of it, and marked if `--cut` leaves alone what is meant; alone: whether it
 -- does so with each line

@@ -4,7 +4,7 @@ ghost use Rattle.std.specs.Prelude.{◌≡◌, ◌++◌, codes, if◌then◌else
 ghost use Rattle.s66_lint.specs.{after_blank, finding_line, is_listed, listing, rule_words, is_alone_at, is_marked};
 
 use crate::finding::{Finding, FindingRule};
-use s66_device::push_field;
+use s66_device::{push_field, push_printable};
 use std::alloc::AllocError;
 
 fn words_of(rule: FindingRule) -> &'static [u8]
@@ -69,7 +69,7 @@ fn ending_of(is_marked: bool) -> &'static [u8]
     if is_marked { b" (CUT)\n" } else { b"\n" }
 }
 
-/// A word after a blank, if there is one.
+/// A word after a blank, if there is one, with `?` for each control character.
 pub(crate) fn push_word(out: &mut Vec<u8>, word: &[u8]) -> Result<(), AllocError>
     ensures { OnOk result (out.new.items ≡ out.old.items ++ after_blank word.now) }
 {
@@ -77,7 +77,7 @@ pub(crate) fn push_word(out: &mut Vec<u8>, word: &[u8]) -> Result<(), AllocError
         return Ok(());
     }
     out.extend_from_slice(b" ")?;
-    out.extend_from_slice(word)
+    push_printable(out, word)
 }
 
 /// The words of a finding, as they are listed.
