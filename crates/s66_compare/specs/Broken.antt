@@ -2,6 +2,7 @@
 use Rattle.std.specs.Prelude.{ℕ, ◌+◌, ◌-◌, ◌==◌, if◌then◌else◌, Option, None, Some, List, [], ◌∷◌, ◌++◌, codes, decimal, get_or, length}
 use Rattle.s66_isa.specs.{least_from, has_reg, instr_at, memory_of, reads_of, results_of, Instr, Memory, Reg}
 use Rattle.s66_isa.specs.declared.instr.Memory.TheVariants as memory
+use Rattle.s66_device.specs.{printable}
 use Rattle.s66_line.specs.{Block, instrs_of, line_of, whole_text_of}
 use Rattle.s66_why.specs.{register_name}
 
@@ -38,9 +39,9 @@ reason m n =
 abbrev pub place_of : (count : ℕ) (order : List ℕ) → ℕ → ℕ
 place_of count order n = least_from (λ k. get_or order k 0 == n) (count - 1) 0
 
--- an instruction, by its line and its text
+-- an instruction, by its line and its text, with `?` for each control character of it
 abbrev pub instruction_text : (name : List ℕ) → Block → ℕ → List ℕ
-instruction_text name block n = name ++ decimal (line_of block n) ++ codes " " ++ whole_text_of block n
+instruction_text name block n = name ++ decimal (line_of block n) ++ codes " " ++ printable (whole_text_of block n)
 
 abbrev pub pair_text : Block → (early late : ℕ) → List ℕ
 pair_text new early late = instruction_text (codes " NOT LEGAL LINE ") new early ++ instruction_text (codes " BEFORE LINE ") new late

@@ -5,7 +5,7 @@ ghost use Rattle.s66_line.specs.{instrs_of};
 ghost use Rattle.s66_why.specs.{register_name};
 ghost use Rattle.s66_compare.specs.{broken_text, first_shared, memory_reason, access, broken_at, instruction_text, pair_text, place_of, reason};
 
-use s66_device::push_field;
+use s66_device::{push_field, push_printable};
 use s66_isa::{Instr, Memory, Reg, has_register};
 use s66_line::Block;
 use s66_why::push_register_name;
@@ -92,7 +92,7 @@ fn place_of(count: usize, order: &[u8], number: u8) -> usize
     count - 1
 }
 
-/// The line and the text of the instruction of a number, from 1, after this name.
+/// The line and the text of the instruction of a number, from 1, after this name. A control character of the text is a `?`.
 fn push_instruction(
     out: &mut Vec<u8>,
     name: &[u8],
@@ -105,7 +105,7 @@ fn push_instruction(
 {
     push_field(out, name, block.line(number) as usize)?;
     out.extend_from_slice(b" ")?;
-    out.extend_from_slice(block.whole_text(number).as_slice())
+    push_printable(out, block.whole_text(number).as_slice())
 }
 
 /// Two instructions of a block, of which the second has to come first.
