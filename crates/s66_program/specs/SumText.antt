@@ -5,6 +5,7 @@
 use Rattle.std.specs.Prelude.{ℕ, ◌+◌, ◌-◌, ◌≡◌, ◌≤◌, ◌<◌, ◌⊎◌, ◌==◌, if◌then◌else◌, Bool, List, [], ◌∷◌, ◌++◌, Option, None, Some, IsPermutation, codes, decimal, length, slice_index_or, unwrap_or}
 use Rattle.s66_isa.specs.{tally, weigh, numbers, Profile}
 use Rattle.s66_command.specs.{SumStyle, Strategy, changes, changes_text, Change}
+use Rattle.s66_device.specs.{printable}
 use Rattle.s66_line.specs.{instrs_of, line_of, Block}
 use Rattle.s66_source.specs.{Placed, Reading}
 use Rattle.s66_answer.specs.{IsOfAnswers, before, shown, Status}
@@ -88,10 +89,10 @@ abbrev pub loop_mark : (shown : Bool) → Option Loop → List ℕ
 loop_mark shown None = []
 loop_mark shown (Some l) = if shown then codes " LOOP" else []
 
--- the name by which a block is entered, if there is one
+-- the name by which a block is entered, if there is one, with `?` for each control character
 abbrev pub entry_text : (name : List ℕ) → List ℕ
 entry_text [] = []
-entry_text (b ∷ name) = codes " ENTRY " ++ b ∷ name
+entry_text (b ∷ name) = codes " ENTRY " ++ printable (b ∷ name)
 
 abbrev pub row_end : (words : Bool) → Option Loop → (entry : List ℕ) → Row → List ℕ
 row_end words closed entry r = sum_counts_text words (ending_of closed r) ++ loop_mark words closed ++ entry_text entry ++ codes "\n"
