@@ -12,8 +12,8 @@ ghost use Rattle.s66_answer.specs.{Status, Done, problem_of};
 ghost use Rattle.s66_program.specs.{IsCompareOutput, IsOrdered, EndsIn, IsReported, ReportsBlocks};
 
 /// What `order` wrote for a source has in the place of each block that is asked for and doesn't stand its instructions in a legal order,
-/// after a line that tells what this order takes, unless it is quiet; each other line is as it was read. If the line ends in BEST, no legal
-/// order of the block takes less; if in AT LEAST and a number, none takes less than that.
+/// after a line that tells what this order takes, unless it is quiet; each other line is as it was read, without the carriage returns at
+/// its end. If the line ends in BEST, no legal order of the block takes less; if in AT LEAST and a number, none takes less than that.
 pub fn reported_law()
     ensures blocks { (strategy : Strategy) (p : Profile) (style : OrderStyle) (only : Option ℕ) (source : Reading) (text : List ℕ)
         (status : Status) → IsOrdered strategy p style only source text status →
