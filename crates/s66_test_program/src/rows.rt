@@ -9,6 +9,7 @@ use std::thread::Threads;
 
 mod chart;
 mod compare;
+mod controls;
 mod deps;
 mod facts;
 mod guard;
@@ -240,6 +241,11 @@ fn runs_rows_of_pairs(rt: HostRuntime) {
     check_rows(&rt, compare::ROWS);
     check_rows(&rt, compare::TEXT_ROWS);
     check_rows(&rt, compare::SOURCE_ROWS);
+}
+
+#[test]
+fn runs_rows_of_control_characters(rt: HostRuntime) {
+    check_rows(&rt, controls::ROWS);
 }
 
 #[test]

@@ -129,6 +129,11 @@ pub(crate) const TOLD: &[(&str, &str, &str)] = &[
         "1 place with 3 lines is left alone\n",
     ),
     (
+        "a line that is added",
+        "guard",
+        "1 place with 3 lines is left alone\n",
+    ),
+    (
         "a sum of two labels of code",
         "guard",
         "2 places with 4 lines are left alone\n",
