@@ -91,6 +91,11 @@ def number_of(term):
     return None if not number else int(number[1], 8 if number[2] in ("B", "O") and not set("89") & set(number[1]) else 10)
 
 
+def printable(text):
+    """A text with ? for each control character, of ASCII and of Latin 1."""
+    return re.sub("[\x00-\x1f\x7f-\x9f]", "?", text)
+
+
 def depends(first, later):
     """Whether an instruction depends on one before it."""
     first, later = (instruction_of(" ".join(filter(None, (line.operation, line.operand)))) for line in (first, later))
@@ -691,7 +696,7 @@ class Findings:
             found += self.of_statement(at, line) if line.is_statement else []
             if at in self.counting:
                 found.append((("COUNTS LINES", line.written or line.directive, "(CUT)"), None))
-        return [Finding(at, " ".join(filter(None, words)), harm) for words, harm in found]
+        return [Finding(at, printable(" ".join(filter(None, words))), harm) for words, harm in found]
 
 
 def findings_of(text, cut):
