@@ -75,6 +75,13 @@ pub(crate) const ROWS: &[Row] = &[
         0,
         "* BLOCK 1 COUNT 7 SOURCE 19 TIME 16 BEST\n* SPLITS 0\n          MX6 25\n          SX1 X7+B7\n          SA4 A4+B2\n          PX0 B5,X1\n          SB4 B6+1\n          PX0 B1,X1\n          UX5 B4,X5\n",
     ),
+    (
+        "without a split, a bound that is raised more than once",
+        NO_SPLIT,
+        "  SX4 X3+B6\n  LX6 B5,X7\n  FX3 X6*X1\n  FX7 X1*X2\n  LX0 B4,X4\n  BX1 X0\n  LX3 B0,X7\n  FX5 X5*X5\n  BX7 X2\n",
+        7,
+        "* BLOCK 1 COUNT 9 SOURCE 26 TIME 23 AT LEAST 22\n* SPLITS 0\n          LX6 B5,X7\n          FX7 X1*X2\n          SX4 X3+B6\n          FX3 X6*X1\n          LX0 B4,X4\n          BX1 X0\n          FX5 X5*X5\n          LX3 B0,X7\n          BX7 X2\n",
+    ),
 ];
 
 /// Orders that more splits find than come first, and facts beside them.
@@ -163,6 +170,13 @@ pub(crate) const PROOF_ROWS: &[Row] = &[
         "  LX5 B0,X6\n  SX3 B2+B0\n  FX7 X3+X1\n  SX3 X2+B3\n  LX5 B0,X3\n  SX0 B1+B2\n  SX2 B7+B3\n",
         0,
         "S66 CERTIFICATE 5\nPROFILE 3 3 4 4 3 10 29 8 3 8 1 1 1 1 2 1 2\nBLOCK 7\nI LX5 B0,X6\nI SX3 B2+B0\nI FX7 X3+X1\nI SX3 X2+B3\nI LX5 B0,X3\nI SX0 B1+B2\nI SX2 B7+B3\nTIME 11\nBOUND 11\nORDER 2 1 3 4 5 6 7\nF 1 4\nF 2 1\nF 2 6\nB 3 1\nF 1 6\nF 3 6\nA 0 END 3 11 4 6 7\nQ\nF 6 5\nF 7 5\nF 3 6\nF 1 6\nA I1 I5 1 6 4 6 7\nE 2\nEND\n",
+    ),
+    (
+        "prefixes with a pair in reverse",
+        &["s66", "prove", "--workers", "1", "--deep", "--nodes", "3"],
+        "  FX3 X2*X1\n  FX3 X3*X3\n  FX2 X3*X4\n  FX6 X1*X4\n",
+        0,
+        "S66 CERTIFICATE 4\nPROFILE 3 3 4 4 3 10 29 8 3 8 1 1 1 1 2 1 2\nBLOCK 4\nI FX3 X2*X1\nI FX3 X3*X3\nI FX2 X3*X4\nI FX6 X1*X4\nTIME 32\nBOUND 32\nORDER 1 2 3 4\nF 1 4\nS 1 4\nS 2 4\nS 3 4\nE 4\nE 3\nE 2\nR 1 4\nEND\n",
     ),
     (
         "a tree of 2,374 lines, and a certificate of 15",
