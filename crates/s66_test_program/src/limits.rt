@@ -1,6 +1,6 @@
 //! Tests of the longest sources, and of the memory that they take.
 
-use crate::running::{CHART, CHECK, DEPS, TIME, TRACE, check_sum, run};
+use crate::running::{CHART, CHECK, DEPS, LINT, TIME, TRACE, check, check_sum, run};
 use s66_source::SOURCE_LINES_LIMIT;
 use std::process::Abort;
 
@@ -93,6 +93,22 @@ fn keeps_memory(rt: HostRuntime) {
         most,
         772_788,
         4_078_082_067,
+    );
+}
+
+/// The line behind the last that a source may have is too long: both is listed.
+#[test]
+fn lists_a_long_line_behind_the_last(rt: HostRuntime) {
+    let lines = SOURCE_LINES_LIMIT as usize;
+    let mut source = "*\n".repeat(rt.alloc(), lines).expect(&rt, "memory");
+    writeln!(source, "{:*<201}", "").expect(&rt, "memory");
+    check(
+        &rt,
+        "a long line behind the last",
+        LINT,
+        source.as_bytes(),
+        5,
+        "LINE 20001 TOO LONG\nTOO MANY LINES\n",
     );
 }
 

@@ -144,6 +144,7 @@ const REFUSED: &[(&str, &str, CertError)] = &[
     ("I FX1 X2*X3", "I fx1 X2*X3", CertError::BadLine { line: 4 }),
     ("I FX1 X2*X3", "I ZR X1,L", CertError::BadLine { line: 4 }),
     ("TIME 22", "TIME 022", CertError::BadLine { line: 7 }),
+    ("TIME 22", "TIME  22", CertError::BadLine { line: 7 }),
     ("TIME 22", "TIME 100001", CertError::BadLine { line: 7 }),
     (
         "TIME 22",
@@ -151,6 +152,7 @@ const REFUSED: &[(&str, &str, CertError)] = &[
         CertError::BadLine { line: 7 },
     ),
     ("S 1 2 3\n", "S 129\n", CertError::BadLine { line: 10 }),
+    ("S 1 2 3\n", "S 1  2 3\n", CertError::BadLine { line: 10 }),
     ("T\nEND", "T\nT\nEND", CertError::BadLine { line: 26 }),
     ("END\n", "", CertError::Truncated),
     ("END\n", "END", CertError::Truncated),
