@@ -1,5 +1,6 @@
 pub mod Along
 pub mod Claimed
+pub mod EndLines
 pub mod FactTexts
 pub mod Hops
 pub mod KnownArcs
@@ -8,7 +9,8 @@ pub mod Listed
 pub mod PairsInTurn
 pub mod PathEnds
 pub mod Rows
-pub mod SoonestIssue
+pub mod Sentences
+pub mod ShortPaths
 pub mod Splits
 pub mod StepTexts
 pub mod SupposedHolds

@@ -1,13 +1,13 @@
--- To be believed: what the rows of a leaf show of the end of all orders that begin with its prefix.
-use Rattle.std.specs.Prelude.{ℕ, ◌+◌, ◌≡◌, ◌≤◌, ◌<◌, ◌⊎◌, true, List, [], ◌∷◌, ◌++◌, Option, None, Some}
-use Rattle.s66_isa.specs.{Among, least, weigh}
-use Rattle.s66_model.specs.{Problem, row_at, total_of, IsLegal, Leaf, Whole, Chain, Load, Parcels, AtTerminal, Ending}
-use Rattle.s66_moments.specs.{Stage, Issue, Start, Moment, At, End, soonest, time_of, Arc, Before, IsNumber, IsSo, Known, arcs_of, span, Supposition, Premises, Network}
+-- To be believed: what the rows of a leaf show of the end of all orders that begin with its prefix, and what the numbers of a sentence are.
+use Rattle.std.specs.Prelude.{ℕ, ◌+◌, ◌≡◌, ◌≤◌, ◌<◌, ◌⊎◌, true, ◌&&◌, ◌==◌, List, [], ◌∷◌, ◌++◌, codes, Option, None, Some}
+use Rattle.s66_isa.specs.{Kind, Among, least, weigh, same_kind}
+use Rattle.s66_model.specs.{Problem, copies, row_at, total_of, IsLegal, Leaf, Whole, Chain, Load, Parcels, AtTerminal, Ending}
+use Rattle.s66_moments.specs.{Stage, Issue, Start, Free, Moment, Origin, At, End, soonest, time_of, Arc, Before, IsNumber, IsSo, Known, arcs_of, span, Supposition, Premises, Network}
 use Rattle.s66_cert.specs.{Document, tree_placed}
 use Rattle.s66_checker.specs.{problem_of}
 use Rattle.s66_reasons.specs.declared.hop.Hop.{Hop}
 use Rattle.s66_reasons.specs.LongestPaths.{arcs, hops_of, to_end}
-use Rattle.s66_reasons.specs.FactWords.{work_of_load}
+use Rattle.s66_reasons.specs.FactWords.{by_parcels, by_unit, comes_words, pair_words, work_of_load}
 use Rattle.s66_reasons.specs.Reasons.{left_row, next_rows}
 use Rattle.s66_reasons.specs.Words.{Reason}
 
@@ -103,3 +103,41 @@ HoldsIn d premises =
 abbrev pub IsRefutedIn : Document → Premises → Type 0
 IsRefutedIn d premises =
     (order : List ℕ) → IsLegal (problem_of d).block order → HasSupposed (problem_of d) premises.supposed order → d.bound ≤ total_of (problem_of d) order
+
+-- WHAT IS SAID of a fact line
+
+-- A longest path from the origin to a moment, a wait, and a longest path from a moment to the end: one after the other they take so long
+-- that the bound is reached. Their sum is what a sentence ends in.
+pub record AddUp (b : Problem) (arcs : Network) (bound : ℕ) (until : Moment) (soonest wait : ℕ) (from : Moment) (rest : ℕ) : Type 0 where
+  pub longest : span b arcs Origin until ≡ Some soonest
+  pub longest_rest : span b arcs from End ≡ Some rest
+  pub reaches : bound ≤ soonest + wait + rest
+
+-- m would issue after the parcels of n
+abbrev pub IsByParcels : Document → Network → (m n : ℕ) → List ℕ → Type 0
+IsByParcels d arcs m n text =
+    let parcels : ℕ = (row_at (problem_of d) n).parcels in
+    (soonest rest : ℕ) × AddUp (problem_of d) arcs d.bound (At n Issue) soonest parcels (At m Issue) rest
+    × (text ≡ pair_words d m n ++ by_parcels soonest parcels rest m n)
+
+-- or once n has left the only unit of their kind
+abbrev pub IsByUnit : Document → Network → (m n : ℕ) → List ℕ → Type 0
+IsByUnit d arcs m n text =
+    let kind : Kind = (row_at (problem_of d) n).kind in
+    (same_kind kind (row_at (problem_of d) m).kind && copies (problem_of d) (row_at (problem_of d) m).kind == 1 ≡ true) ×
+    ((soonest rest : ℕ) × AddUp (problem_of d) arcs d.bound (At n Free) soonest 0 (At m Issue) rest
+    × (text ≡ pair_words d m n ++ by_unit kind soonest rest m n))
+
+-- what is said of a pair
+abbrev pub IsPairShown : Document → Network → (m n : ℕ) → List ℕ → Type 0
+IsPairShown d arcs m n text = IsByParcels d arcs m n text ⊎ IsByUnit d arcs m n text
+
+-- of a supposition, to show that m stands before n: k issues or starts too late
+abbrev pub IsThrough : Document → Network → (m n k : ℕ) → (stage : Stage) → (does : List ℕ) → List ℕ → Type 0
+IsThrough d arcs m n k stage does text =
+    (soonest rest : ℕ) × AddUp (problem_of d) arcs d.bound (At k stage) soonest 0 (At k stage) rest
+    × (text ≡ pair_words d m n ++ (codes "if not, " ++ comes_words does soonest rest k))
+
+abbrev pub IsThroughShown : Document → Network → (m n k : ℕ) → List ℕ → Type 0
+IsThroughShown d arcs m n k text =
+    IsThrough d arcs m n k Issue (codes " issues at ") text ⊎ IsThrough d arcs m n k Start (codes " starts at ") text

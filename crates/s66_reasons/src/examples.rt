@@ -1,12 +1,13 @@
 //! Worked examples: what is said of small documents. Each clause is a text, and the function does nothing.
 
-ghost use Rattle.std.specs.Prelude.{[], ◌∷◌, ◌≡◌, ◌++◌, codes};
+ghost use Rattle.std.specs.Prelude.{[], ◌∷◌, ◌≡◌, ◌++◌, codes, None, Some};
 ghost use Rattle.s66_isa.specs.{Divide, Multiply};
 ghost use Rattle.s66_model.specs.{Load, Alone, Parted, NoMore, Unsplit, Bounding};
 ghost use Rattle.s66_moments.specs.{second_by_lines};
+ghost use Rattle.s66_moments.specs.declared.fact_line.FactStep.TheVariants.{Refuted, Suppose};
 ghost use Rattle.s66_cert.specs.{one_load, three_multiplies};
 ghost use Rattle.s66_checker.specs.{before_their_writers, multiplies_at_once, three_adds};
-ghost use Rattle.s66_reasons.specs.{shifts_in_turn, by_parcels, by_unit, by_words, pairs_of, fact_reasons_text, reasons_text};
+ghost use Rattle.s66_reasons.specs.{shifts_in_turn, by_parcels, by_unit, by_words, end_at_16, end_comes_words, end_line, pairs_of, fact_reasons_text, reasons_text};
 
 /// Which fact lines together put a number before another, and how they are named.
 #[tactic(auto, unfolding(s66_isa::specs::Table::row, s66_isa::specs::Profiles::profile_of, s66_model::specs::Dependence::conflict, crate::specs::Words::digits))]
@@ -19,13 +20,23 @@ pub fn by_examples()
     ensures three { by_words (1 ∷ 2 ∷ 4 ∷ []) ≡ codes " (by 1., 2. and 4.)" }
 {}
 
-/// What is said of a pair by which more than the bound is reached: the last number is all of it.
+/// What is said of a pair: the last number is the sum of those before it, whatever the bound is.
 #[tactic(auto, unfolding(crate::specs::Words::digits))]
 pub fn above_examples()
-    ensures parcels { by_parcels 5 8 1 3 2 ≡
-        codes "2 issues at 8 or later; behind it 3 could issue 1 later, and from there to the end it is 0 or more: 9" }
-    ensures unit { by_unit Divide 20 30 2 1 ≡
-        codes "1 has the Divide unit until 30 or later; behind it 2 could issue then, and from there to the end it is 0 or more: 30" }
+    ensures parcels { by_parcels 8 1 4 3 2 ≡
+        codes "2 issues at 8 or later; behind it 3 could issue 1 later, and from there to the end it is 4 or more: 13" }
+    ensures unit { by_unit Divide 30 4 2 1 ≡
+        codes "1 has the Divide unit until 30 or later; behind it 2 could issue then, and from there to the end it is 4 or more: 34" }
+{}
+
+/// By which load line the end comes: by none within a supposition that has ended, and by the first of several.
+#[tactic(auto, unfolding(crate::specs::Words::digits))]
+pub fn end_examples()
+    ensures ended { end_line 15 1 (Suppose 1 2 ∷ end_at_16 ∷ Refuted ∷ []) ≡ None }
+    ensures within { end_line 15 1 (Suppose 1 2 ∷ end_at_16 ∷ end_at_16 ∷ []) ≡ Some (2, 16) }
+    ensures outside { end_line 15 1 (end_at_16 ∷ Suppose 1 2 ∷ []) ≡ Some (1, 16) }
+    ensures short { end_line 17 1 (end_at_16 ∷ []) ≡ None }
+    ensures said { end_comes_words (Some (2, 16)) ≡ codes "the end comes at 16 or later, by 2." }
 {}
 
 /// What is said of a supposition, and that the number of its last line stands for what it shows, and no line within it for anything.

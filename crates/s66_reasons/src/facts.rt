@@ -3,12 +3,12 @@
 ghost use Rattle.std.specs.Prelude.{◌≡◌, ◌≤◌, ◌<◌, ◌+◌, ◌^◌, ◌++◌, [], true, OnOk, Some, decimal, length};
 ghost use Rattle.s66_isa.specs.{BLOCK_LIMIT};
 ghost use Rattle.s66_model.specs.{row_at};
-ghost use Rattle.s66_moments.specs.{Load, Issue, At, IsNumber, arcs_of, is_taken, plus, reaches};
+ghost use Rattle.s66_moments.specs.{Load, IsNumber, arcs_of, is_taken, plus, reaches};
 ghost use Rattle.s66_facts.specs.{known_of as known_in};
 ghost use Rattle.s66_cert.specs.{document_of};
 ghost use Rattle.s66_checker.specs.{problem_of};
 ghost use Rattle.s66_reasons.specs.{AreLoaded, listed, begins, by_parcels, by_unit, could_words, fact_sentence, from_words, has_words, in_all, issues_words, last_words, late_words, left_to, load_end};
-ghost use Rattle.s66_reasons.specs.{load_sentence, many_words, mixed_words, need_words, one_words, pair_sentence, pair_words, rest_words, side_by_side, so_words, soonest_known, to_words, units_words};
+ghost use Rattle.s66_reasons.specs.{load_sentence, many_words, mixed_words, need_words, one_words, pair_sentence, pair_words, rest_words, side_by_side, so_words, to_words, units_words};
 ghost use Rattle.s66_reasons.specs.{until_words, which_words};
 
 use crate::units::{kind_of, push_each};
@@ -247,14 +247,13 @@ pub(crate) fn push_load_sentence(
     push_until(out, &load, numbers)
 }
 
-/// How long it is to the end from a minor cycle, so that the bound is reached, and how long in all.
-pub(crate) fn push_rest(out: &mut Vec<u8>, bound: u32, until: u64) -> Result<(), AllocError>
-    ensures { OnOk result (out.new.items ≡ out.old.items ++ rest_words bound until) }
+/// How long it is to the end from a minor cycle, and how long in all.
+pub(crate) fn push_rest(out: &mut Vec<u8>, until: u64, rest: u64) -> Result<(), AllocError>
+    requires { until + rest < 2 ^ 64 }
+    ensures { OnOk result (out.new.items ≡ out.old.items ++ rest_words until rest) }
 {
-    let rest = (bound as u64).saturating_sub(until);
-    let all = (bound as u64).max(until);
     push_field(out, b", and from there to the end it is ", rest as usize)?;
-    push_field(out, b" or more: ", all as usize)
+    push_field(out, b" or more: ", (until + rest) as usize)
 }
 
 /// When n issues at the soonest.
@@ -287,37 +286,38 @@ fn push_has(out: &mut Vec<u8>, kind: Kind, soonest: u64, n: u8) -> Result<(), Al
     )
 }
 
-/// Why m can't stand behind n, by the parcels of n, which issues at `soonest` at the soonest.
+/// Why m can't stand behind n, by the parcels of n, which issues at `soonest` at the soonest; the end comes `rest` after m issues.
 fn push_by_parcels(
     out: &mut Vec<u8>,
-    bound: u32,
     soonest: u64,
     parcels: u32,
+    rest: u64,
     m: u8,
     n: u8,
 ) -> Result<(), AllocError>
-    requires { soonest + parcels < 2 ^ 64 }
-    ensures { OnOk result (out.new.items ≡ out.old.items ++ by_parcels bound soonest parcels m n) }
+    requires { soonest + parcels + rest < 2 ^ 64 }
+    ensures { OnOk result (out.new.items ≡ out.old.items ++ by_parcels soonest parcels rest m n) }
 {
     push_issues(out, soonest, n)?;
     push_could(out, parcels, m)?;
-    push_rest(out, bound, soonest + parcels as u64)
+    push_rest(out, soonest + parcels as u64, rest)
 }
 
 /// By the only unit of their kind, which n has until `soonest` at the soonest.
 fn push_by_unit(
     out: &mut Vec<u8>,
     kind: Kind,
-    bound: u32,
     soonest: u64,
+    rest: u64,
     m: u8,
     n: u8,
 ) -> Result<(), AllocError>
-    ensures { OnOk result (out.new.items ≡ out.old.items ++ by_unit kind bound soonest m n) }
+    requires { soonest + rest < 2 ^ 64 }
+    ensures { OnOk result (out.new.items ≡ out.old.items ++ by_unit kind soonest rest m n) }
 {
     push_has(out, kind, soonest, n)?;
     push_between(out, b"", m as usize, b" could issue then")?;
-    push_rest(out, bound, soonest)
+    push_rest(out, soonest, rest)
 }
 
 /// How many parcels an instruction has.
@@ -341,21 +341,6 @@ fn is_late_by_parcels(bound: u32, head: Option<u64>, parcels: u32, tail: Option<
         }
         _ => false,
     }
-}
-
-/// When n issues at the soonest.
-fn soonest_issue(facts: &Facts, n: u8) -> u64
-    requires { IsNumber facts.now.problem n }
-    ensures value { result ≡
-        soonest_known facts.now.problem (arcs_of facts.now.problem (known_in facts.now)) (At n Issue) }
-    ensures small { result + (row_at facts.now.problem n).parcels < 2 ^ 64 }
-{
-    // its clauses say that what is known forms no ring
-    let _count = facts.count();
-    let head = facts.head(n);
-    // its unit is free later by more than its parcels, and that fits
-    let _free = head.free.unwrap_or(0);
-    head.issue.unwrap_or(0)
 }
 
 /// That m stands before n.
@@ -392,12 +377,18 @@ fn push_late(
     ensures { OnOk result (out.new.items ≡ out.old.items ++
         late_words facts.now.problem bound (arcs_of facts.now.problem (known_in facts.now)) m n) }
 {
+    // its clauses say that what is known forms no ring, so paths are short
+    let _count = facts.count();
     let head = facts.head(n);
+    let tail = facts.tail(m).issue;
+    let rest = tail.unwrap_or(0);
     let parcels = parcels_of(prefix, n);
-    if is_late_by_parcels(bound, head.issue, parcels, facts.tail(m).issue) {
-        push_by_parcels(out, bound, soonest_issue(facts, n), parcels, m, n)
+    if is_late_by_parcels(bound, head.issue, parcels, tail) {
+        let soonest = head.issue.unwrap_or(0);
+        push_by_parcels(out, soonest, parcels, rest, m, n)
     } else {
-        push_by_unit(out, kind_of(prefix, n), bound, head.free.unwrap_or(0), m, n)
+        let soonest = head.free.unwrap_or(0);
+        push_by_unit(out, kind_of(prefix, n), soonest, rest, m, n)
     }
 }
 

@@ -7,6 +7,7 @@
 
 mod arcs;
 mod chain;
+mod ends;
 mod examples;
 mod facts;
 mod hop;
@@ -25,7 +26,9 @@ mod units;
 mod words;
 mod work;
 
-pub use examples::{above_examples, by_examples, reasons_examples, supposition_examples};
+pub use examples::{
+    above_examples, by_examples, end_examples, reasons_examples, supposition_examples,
+};
 pub use laws::reasons_law;
 pub use reasons::push_reasons;
 pub use work::Work;

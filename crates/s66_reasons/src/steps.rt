@@ -1,13 +1,15 @@
 //! The fact lines of a document in sentences, numbered, with the suppositions among them.
 
-ghost use Rattle.std.specs.Prelude.{◌≡◌, ◌++◌, [], ◌∷◌, true, IfOk, IfSome, OnOk};
+ghost use Rattle.std.specs.Prelude.{◌≡◌, ◌≤◌, ◌<◌, ◌+◌, ◌^◌, ◌++◌, [], ◌∷◌, true, length, IfOk, IfSome, OnOk};
 ghost use Rattle.s66_isa.specs.{numbers};
 ghost use Rattle.s66_moments.specs.{IsNumber, arcs_of, is_step_taken, premises_first};
 ghost use Rattle.s66_facts.specs.{known_of as known_in, premises_in};
 ghost use Rattle.s66_cert.specs.{document_of};
 ghost use Rattle.s66_checker.specs.{KnowsAll, facts_of, problem_of};
-ghost use Rattle.s66_reasons.specs.{comes_words, facts_from, late_number, margin, numbered_step, refuted_sentence, refuted_words, suppose_sentence, through_words, to_show, too_late_words, AreBegun};
+ghost use Rattle.s66_reasons.specs.{comes_words, end_by_words, end_comes_words, facts_from, late_number, lines_before, margin, numbered_step, refuted_sentence, refuted_words, suppose_sentence, through_words};
+ghost use Rattle.s66_reasons.specs.{to_show, too_late_words, AreBegun};
 
+use crate::ends::end_line;
 use crate::facts::{push_fact, push_pair_words, push_rest};
 use crate::left::to_show_after;
 use crate::words::push_around;
@@ -26,19 +28,20 @@ fn push_suppose(out: &mut Vec<u8>, document: &Document, m: u8, n: u8) -> Result<
     push_around(out, b"", document, m, b" in a faster order:")
 }
 
-/// When n issues or starts, so late that the bound is reached.
+/// When n issues or starts, and how long it is from there to the end: so long that the bound is reached.
 fn push_comes(
     out: &mut Vec<u8>,
     does: &[u8],
-    bound: u32,
     soonest: u64,
+    rest: u64,
     n: u8,
 ) -> Result<(), AllocError>
-    ensures { OnOk result (out.new.items ≡ out.old.items ++ comes_words does.now bound soonest n) }
+    requires { soonest + rest < 2 ^ 64 }
+    ensures { OnOk result (out.new.items ≡ out.old.items ++ comes_words does.now soonest rest n) }
 {
     push_between(out, b"", n as usize, does)?;
     push_between(out, b"", soonest as usize, b" or later")?;
-    push_rest(out, bound, soonest)
+    push_rest(out, soonest, rest)
 }
 
 /// The first number of the block through whose issue or start the longest path reaches the bound.
@@ -75,27 +78,52 @@ fn push_through(out: &mut Vec<u8>, facts: &Facts, bound: u32, n: u8) -> Result<(
     ensures { OnOk result (out.new.items ≡ out.old.items ++
         through_words facts.now.problem (arcs_of facts.now.problem (known_in facts.now)) bound n) }
 {
+    // its clauses say that what is known forms no ring, so paths are short
+    let _count = facts.count();
     let head = facts.head(n);
-    if reaches_both(bound, head.issue, facts.tail(n).issue) {
-        push_comes(out, b" issues at ", bound, head.issue.unwrap_or(0), n)
+    let tail = facts.tail(n);
+    if reaches_both(bound, head.issue, tail.issue) {
+        let soonest = head.issue.unwrap_or(0);
+        push_comes(out, b" issues at ", soonest, tail.issue.unwrap_or(0), n)
     } else {
-        push_comes(out, b" starts at ", bound, head.start.unwrap_or(0), n)
+        let soonest = head.start.unwrap_or(0);
+        push_comes(out, b" starts at ", soonest, tail.start.unwrap_or(0), n)
     }
 }
 
-/// Which instruction is too late; by a load it is the end.
+/// When the end comes, by the load line of this number.
+fn push_end_by(out: &mut Vec<u8>, number: usize, wait: u32) -> Result<(), AllocError>
+    ensures { OnOk result (out.new.items ≡ out.old.items ++ end_by_words number wait) }
+{
+    let words = b" or later, by ";
+    push_between(out, b"the end comes at ", wait as usize, words)?;
+    push_between(out, b"", number, b".")
+}
+
+/// The same if there is such a line.
+fn push_end_comes(out: &mut Vec<u8>, line: Option<(usize, u32)>) -> Result<(), AllocError>
+    ensures { OnOk result (out.new.items ≡ out.old.items ++ end_comes_words line) }
+{
+    match line {
+        None => Ok(()),
+        Some((number, wait)) => push_end_by(out, number, wait),
+    }
+}
+
+/// Which instruction is too late; by a load line of those before it is the end.
 fn push_too_late(
     out: &mut Vec<u8>,
     facts: &Facts,
     bound: u32,
+    before: &[FactStep],
     late: Option<u8>,
 ) -> Result<(), AllocError>
     requires { IfSome late (λ n. IsNumber facts.now.problem n) }
     ensures { OnOk result (out.new.items ≡ out.old.items ++
-        too_late_words facts.now.problem (arcs_of facts.now.problem (known_in facts.now)) bound late) }
+        too_late_words facts.now.problem (arcs_of facts.now.problem (known_in facts.now)) bound before.now late) }
 {
     match late {
-        None => push_between(out, b"the end comes at ", bound as usize, b" or later"),
+        None => push_end_comes(out, end_line(bound, before)),
         Some(n) => push_through(out, facts, bound, n),
     }
 }
@@ -105,36 +133,47 @@ fn push_refuted_words(
     out: &mut Vec<u8>,
     facts: &Facts,
     bound: u32,
+    before: &[FactStep],
     behind: u8,
 ) -> Result<(), AllocError>
     requires { IsNumber facts.now.problem behind }
     ensures { OnOk result (out.new.items ≡ out.old.items ++
-        refuted_words facts.now.problem (arcs_of facts.now.problem (known_in facts.now)) bound behind) }
+        refuted_words facts.now.problem (arcs_of facts.now.problem (known_in facts.now)) bound before.now behind) }
 {
     out.extend_from_slice(b"if not, ")?;
-    push_too_late(out, facts, bound, late_number(facts, bound, behind))
+    let late = late_number(facts, bound, behind);
+    push_too_late(out, facts, bound, before, late)
 }
 
-/// The pair that a supposition shows, and why.
+/// The pair that a supposition shows, and why, after these lines.
 fn push_refuted(
     out: &mut Vec<u8>,
     document: &Document,
     facts: &Facts,
+    before: &[FactStep],
     to_show: Option<(u8, u8)>,
 ) -> Result<(), AllocError>
     requires problem { facts.now.problem ≡ problem_of (document_of document.now) }
     requires number { IfSome to_show (λ pair. IsNumber facts.now.problem pair.0) }
     ensures { OnOk result (out.new.items ≡ out.old.items ++
         refuted_sentence (document_of document.now)
-        (arcs_of (problem_of (document_of document.now)) (known_in facts.now)) to_show) }
+        (arcs_of (problem_of (document_of document.now)) (known_in facts.now)) before.now to_show) }
 {
     match to_show {
         None => Ok(()),
         Some((m, n)) => {
             push_pair_words(out, document, m, n)?;
-            push_refuted_words(out, facts, document.bound(), m)
+            push_refuted_words(out, facts, document.bound(), before, m)
         }
     }
+}
+
+/// The fact lines of a document before the one of this number.
+fn lines_before(document: &Document, number: usize) -> &[FactStep]
+    requires { (1 ≤ number) × (number ≤ length (facts_of (document_of document.now))) }
+    ensures { result.now ≡ lines_before (document_of document.now) number }
+{
+    &fact_lines(document)[..number - 1]
 }
 
 /// What comes before its number: a fact line within a supposition stands further in.
@@ -164,7 +203,8 @@ fn push_numbered(
     requires start { prefix.now.numbers ≡ [] }
     requires problem { supposing.now.ground.problem ≡ problem_of (document_of document.now) }
     requires shows { shows ≡ to_show (premises_in supposing.now) }
-    requires number { IfSome shows (λ pair. IsNumber supposing.now.ground.problem pair.0) }
+    requires first { IfSome shows (λ pair. IsNumber supposing.now.ground.problem pair.0) }
+    requires number { (1 ≤ number) × (number ≤ length (facts_of (document_of document.now))) }
     requires taken { is_step_taken (problem_of (document_of document.now)) (document_of document.now).bound
         (premises_in supposing.now) step.now ≡ true }
     ensures { OnOk result (out.new.items ≡ out.old.items ++
@@ -174,7 +214,10 @@ fn push_numbered(
     match step {
         FactStep::Fact(line) => push_fact(out, document, prefix, supposing.facts(), line)?,
         FactStep::Suppose(first, second) => push_suppose(out, document, *first, *second)?,
-        FactStep::Refuted => push_refuted(out, document, supposing.facts(), shows)?,
+        FactStep::Refuted => {
+            let before = lines_before(document, number);
+            push_refuted(out, document, supposing.facts(), before, shows)?
+        }
     }
     out.extend_from_slice(b"\n")
 }

@@ -77,11 +77,11 @@ const FACT_REASONS: &[(&str, &str)] = &[
     ),
     (
         "S66 CERTIFICATE 4\nPROFILE 3 3 4 4 3 10 29 8 3 8 1 1 1 1 2 1 2\nBLOCK 3\nI SA1 A1+B1\nI BX1 X2\nI BX3 X4\nTIME 16\nBOUND 5\nORDER 1 2 3\nF 3 2\nE 1\nEND\n",
-        "DOCUMENT 1 YES TIME 16 BOUND 5\nEvery order takes 5 or more:\n  1. 3 BX3 X4 stands before 2 BX1 X2 in a faster order: 2 issues at 8 or later; behind it 3 could issue 1 later, and from there to the end it is 0 or more: 9\nIf an order took less than 5:\n   0  1 SA1 A1+B1 can issue\n   8  X1 of 1 SA1 A1+B1 is there, which 2 BX1 X2 writes again\n  12  the unit of 2 BX1 X2 is free, and that is the end\nThe order found takes 16.\n",
+        "DOCUMENT 1 YES TIME 16 BOUND 5\nEvery order takes 5 or more:\n  1. 3 BX3 X4 stands before 2 BX1 X2 in a faster order: 2 issues at 8 or later; behind it 3 could issue 1 later, and from there to the end it is 4 or more: 13\nIf an order took less than 5:\n   0  1 SA1 A1+B1 can issue\n   8  X1 of 1 SA1 A1+B1 is there, which 2 BX1 X2 writes again\n  12  the unit of 2 BX1 X2 is free, and that is the end\nThe order found takes 16.\n",
     ),
     (
         "S66 CERTIFICATE 4\nPROFILE 3 3 4 4 3 10 29 8 3 8 1 1 1 1 2 1 2\nBLOCK 2\nI FX1 X2/X3\nI CX4 X5\nTIME 39\nBOUND 20\nORDER 1 2\nF 2 1\nE 1\nEND\n",
-        "DOCUMENT 1 YES TIME 39 BOUND 20\nEvery order takes 20 or more:\n  1. 2 CX4 X5 stands before 1 FX1 X2/X3 in a faster order: 1 has the Divide unit until 30 or later; behind it 2 could issue then, and from there to the end it is 0 or more: 30\nIf an order took less than 20:\n   0  1 FX1 X2/X3 can issue\n  30  the unit of 1 FX1 X2/X3 is free, and that is the end\nThe order found takes 39.\n",
+        "DOCUMENT 1 YES TIME 39 BOUND 20\nEvery order takes 20 or more:\n  1. 2 CX4 X5 stands before 1 FX1 X2/X3 in a faster order: 1 has the Divide unit until 30 or later; behind it 2 could issue then, and from there to the end it is 9 or more: 39\nIf an order took less than 20:\n   0  1 FX1 X2/X3 can issue\n  30  the unit of 1 FX1 X2/X3 is free, and that is the end\nThe order found takes 39.\n",
     ),
     (
         "S66 CERTIFICATE 4\nPROFILE 3 3 4 4 3 10 29 8 3 8 1 1 1 1 2 1 2\nBLOCK 5\nI SB5 B7+B6\nI SB3 B2+B0\nI SB3 B6+B2\nI SB3 B5+B0\nI LX7 B5,X7\nTIME 11\nBOUND 11\nORDER 1 2 3 5 4\nF 1 3\nF 2 1\nF 5 4\nS 1 2\nR 2 1\nS 1 3\nL 4 3\nR 1 3\nEND\n",
@@ -89,7 +89,7 @@ const FACT_REASONS: &[(&str, &str)] = &[
     ),
     (
         "S66 CERTIFICATE 5\nPROFILE 3 3 4 4 3 10 29 8 3 8 1 1 1 1 2 1 2\nBLOCK 4\nI FX3 X2*X1\nI FX3 X3*X3\nI FX2 X3*X4\nI FX6 X1*X4\nTIME 32\nBOUND 32\nORDER 1 2 3 4\nB 4 2\nA 0 END 10 32 2 3 4\nQ\nL 0 1 2 4\nEND\n",
-        "DOCUMENT 1 YES TIME 32 BOUND 32\nEvery order takes 32 or more:\n  1. If 2 FX3 X3*X3 stood before 4 FX6 X1*X4 in a faster order:\n    2. From the beginning it is 10 or more until one of 2, 3 and 4 has its Multiply unit; these need the 2 for 11 each, 33 in all and 22 side by side; so the last of them begins at 21 or later, and from there to the end it is 11 or more: 32\n  3. 4 FX6 X1*X4 stands before 2 FX3 X3*X3 in a faster order: if not, the end comes at 32 or later\nIf an order took less than 32:\n  32  From the beginning it is 0 or more until one of 1, 2 and 4 has its Multiply unit; these need the 2 for 11 each, 33 in all and 22 side by side; so the last of them begins at 11 or later, and from there to the end it is 21 or more: 32\nSo the order of 32 is best.\n",
+        "DOCUMENT 1 YES TIME 32 BOUND 32\nEvery order takes 32 or more:\n  1. If 2 FX3 X3*X3 stood before 4 FX6 X1*X4 in a faster order:\n    2. From the beginning it is 10 or more until one of 2, 3 and 4 has its Multiply unit; these need the 2 for 11 each, 33 in all and 22 side by side; so the last of them begins at 21 or later, and from there to the end it is 11 or more: 32\n  3. 4 FX6 X1*X4 stands before 2 FX3 X3*X3 in a faster order: if not, the end comes at 32 or later, by 2.\nIf an order took less than 32:\n  32  From the beginning it is 0 or more until one of 1, 2 and 4 has its Multiply unit; these need the 2 for 11 each, 33 in all and 22 side by side; so the last of them begins at 11 or later, and from there to the end it is 21 or more: 32\nSo the order of 32 is best.\n",
     ),
 ];
 

@@ -1,16 +1,18 @@
-use Rattle.std.proofs.Common.{◌≡◌, [], refl, inl, subst, sym, arith, leb-true}
+use Rattle.std.proofs.Common.{◌≡◌, ◌++◌, [], codes, refl, inl, subst, sym, arith, leb-true}
 use Rattle.s66_isa.specs.{Among}
 use Rattle.s66_model.specs.{value, Tree, AtTerminal, Ending, Bounding, Factual, Next, Turned, LoadFrom}
 use Rattle.s66_model.proofs.Remaining.{legal-parts, remaining-parts}
 use Rattle.s66_model.proofs.Trees.{leaf-sound}
-use Rattle.s66_moments.specs.{next_value}
+use Rattle.s66_moments.specs.{arcs_of, next_value}
 use Rattle.s66_cert.specs.{tree_placed}
 use Rattle.s66_checker.specs.{known_of, problem_of}
 use Rattle.s66_checker.proofs.GrantedClaims.{granted}
-use Rattle.s66_reasons.specs.{leaf_rows, end_by}
+use Rattle.s66_reasons.specs.{leaf_rows, end_by, lines_before, pair_words, refuted_sentence, too_late_words, IsThroughShown}
 use Rattle.s66_reasons.proofs.Claimed.{claimed-leaf, faultless, granted-each, granted-next, granted-turned, right-each}
+use Rattle.s66_reasons.proofs.EndLines.{end-named}
 use Rattle.s66_reasons.proofs.PathEnds.{has-none_sooner, load-shown, path-shown}
 use Rattle.s66_reasons.proofs.Rows.{rows-end}
+use Rattle.s66_reasons.proofs.Sentences.{pair-shown, through-shown}
 use Rattle.s66_reasons.proofs.SupposedHolds.{holds-in, refuted-in}
 use Rattle.s66_reasons.proofs.laws.reasons_law.Goals as goal
 
@@ -34,6 +36,11 @@ returns c = record {
       path-shown d all.0 n (low, high) bound (omega (arith, ((granted d time bound).0 holds).1, leb-true d.bound (next_value (problem_of d) (known_of d) [] n) granted_here.1));
   supposed = holds-in;
   refuted = refuted-in;
+  pair = λ d premises number m n taken. pair-shown d m n premises.known taken;
+  through = λ d premises number m n k shows late. subst (λ o. IsThroughShown d (arcs_of (problem_of d) premises.known) m n k (refuted_sentence d (arcs_of (problem_of d) premises.known) (lines_before d number) o)) (sym shows)
+      (subst (λ o. IsThroughShown d (arcs_of (problem_of d) premises.known) m n k (pair_words d m n ++ (codes "if not, " ++ too_late_words (problem_of d) (arcs_of (problem_of d) premises.known) d.bound (lines_before d number) o))) (sym late)
+      (through-shown d m n (arcs_of (problem_of d) premises.known) k late));
+  ended = λ d front m taken refuted none. end-named (problem_of d) d.bound front m taken refuted none;
   no_sooner = λ d n taken is_n. has-none_sooner d taken n is_n;
   left = λ limit d time bound at after ns is holds among.
       let all = faultless limit d time bound is holds in
