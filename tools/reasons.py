@@ -253,8 +253,8 @@ class Texts:
             begin = f"{n} has the {NAMES[self.problem.block[n].unit]} unit until ([0-9]+) or later; behind it {m} could issue then"
             parcels, until = 0, heads["free", n]
         head, rest, all = map(int, read(begin + end, why))
-        must((head + parcels, rest, all) == (until, max(0, bound - until), until + rest), f"not the sum: {sentence}")
-        must(rest <= tail, f"the path to the end is shorter: {sentence}")
+        must((head + parcels, rest, all) == (until, tail, until + tail), f"not the sum of longest paths: {sentence}")
+        self.reaches(all)
 
     def suppose_sentence(self, pair, sentence):
         """Whether a sentence says that the second of a pair is supposed to stand before the first."""
@@ -270,15 +270,18 @@ class Texts:
         moments = [(stage, n) for n in [behind, *sorted(self.problem.block)] for stage in ("issue", "start")]
         late = [moment for moment in moments if heads[moment] + tails[moment] >= bound]
         if not late:
-            must(why == f"the end comes at {bound} or later" and self.known.arcs[ORIGIN][END] >= bound, f"not so: {sentence}")
+            known = sorted({**self.loads, **self.within}.items())
+            ends = [(line, load.wait) for line, load in known if (load.begin, load.end) == (ORIGIN, END) and load.wait >= bound]
+            must(ends and why == f"the end comes at {ends[0][1]} or later, by {ends[0][0]}.", f"not so: {sentence}")
             return
         stage, n = late[0]
         head, rest, all = map(int, read(f"{n} {stage}s at ([0-9]+) or later, and from there to the end it is ([0-9]+) or more: ([0-9]+)", why))
-        must((head, rest, all) == (heads[late[0]], max(0, bound - head), head + rest), f"not the sum: {sentence}")
+        must((head, rest, all) == (heads[late[0]], tails[late[0]], head + rest), f"not the sum of longest paths: {sentence}")
+        self.reaches(all)
 
     def facts(self):
         """The fact lines, each by what is known before it, what they leave known, and the orders in which they hold."""
-        self.pairs, self.loads = {}, {}
+        self.pairs, self.loads, self.within = {}, {}, {}
         kinds = {Pair: self.pair_sentence, Load: self.load_sentence, Suppose: self.suppose_sentence, Refuted: self.refuted_sentence}
         for number, fact in enumerate(self.document.facts, 1):
             is_within = self.known.outer and isinstance(fact, (Pair, Load))
@@ -289,6 +292,10 @@ class Texts:
             must(self.known.add_fact(fact), f"not right: {sentence}")
             if not self.known.outer:
                 (self.pairs if isinstance(left, Pair) else self.loads)[number] = left
+            if isinstance(fact, (Suppose, Refuted)):
+                self.within = {}
+            elif self.known.outer and isinstance(fact, Load):
+                self.within[number] = fact
         line = self.line()
         must(line == f"If an order took less than {self.document.bound}:", f"not the orders of the rows: {line}")
 
