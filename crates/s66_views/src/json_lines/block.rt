@@ -27,7 +27,7 @@ fn push_name(out: &mut Vec<u8>, number: usize, label: &[u8], entry: &[u8]) -> Re
 }
 
 /// Its first and its last line.
-#[tactic(auto, unfolding(crate::specs::Pieces::lines_text))]
+#[tactic(auto, unfolding(crate::specs::Pieces::json_lines_text))]
 fn push_lines(out: &mut Vec<u8>, block: &Block) -> Result<(), AllocError>
     ensures { OnOk result (out.new.items ≡ out.old.items ++ json_lines_text block.now) }
 {

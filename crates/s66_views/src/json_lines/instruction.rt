@@ -64,7 +64,7 @@ fn push_needs(out: &mut Vec<u8>, row: &Row, after: &Set) -> Result<(), AllocErro
 }
 
 /// The instruction of a number, which depends on these.
-#[tactic(auto, unfolding(crate::specs::Pieces::instruction_text))]
+#[tactic(auto, unfolding(crate::specs::Pieces::json_instruction_text))]
 fn push_instruction(
     out: &mut Vec<u8>,
     profile: &Profile,

@@ -96,7 +96,7 @@ pub(crate) fn push_timed(out: &mut Vec<u8>, timed: &Timed) -> Result<(), AllocEr
 }
 
 /// What every order takes at least, and how many splits there were.
-#[tactic(auto, unfolding(crate::specs::Pieces::bound_text))]
+#[tactic(auto, unfolding(crate::specs::Pieces::json_bound_text))]
 pub(crate) fn push_bound(
     out: &mut Vec<u8>,
     bound: u32,

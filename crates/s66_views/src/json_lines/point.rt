@@ -58,7 +58,7 @@ fn done(point: &PlacedInstr) -> usize
 }
 
 /// When it starts, is done, and frees its unit.
-#[tactic(auto, unfolding(crate::specs::Pieces::times_text))]
+#[tactic(auto, unfolding(crate::specs::Pieces::json_times_text))]
 fn push_times(out: &mut Vec<u8>, point: &PlacedInstr) -> Result<(), AllocError>
     ensures { OnOk result (out.new.items ≡ out.old.items ++ json_times_text point.now) }
 {

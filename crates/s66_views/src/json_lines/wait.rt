@@ -39,7 +39,7 @@ fn push_for_unit(out: &mut Vec<u8>, kind: Kind) -> Result<(), AllocError>
 }
 
 /// What is waited for.
-#[tactic(auto, unfolding(crate::specs::Pieces::cause_text, crate::specs::Pieces::sort_text, crate::specs::Pieces::name_text, crate::specs::Pieces::register_text, crate::specs::Pieces::unit_text, serde_json::proofs::OnLiterals::serde_json_on_literals))]
+#[tactic(auto, unfolding(crate::specs::Pieces::json_cause_text, crate::specs::Pieces::sort_text, crate::specs::Pieces::name_text, crate::specs::Pieces::json_register_text, crate::specs::Pieces::unit_text, serde_json::proofs::OnLiterals::serde_json_on_literals))]
 fn push_cause(out: &mut Vec<u8>, cause: &Cause) -> Result<(), AllocError>
     ensures { OnOk result (out.new.items ≡ out.old.items ++ json_cause_text cause.now) }
 {

@@ -70,7 +70,7 @@ fn quoted_bank(bank: Bank) -> &'static [u8]
 }
 
 /// A register.
-#[tactic(auto, unfolding(crate::specs::Pieces::register_text, json::specs::Print::escape_byte))]
+#[tactic(auto, unfolding(crate::specs::Pieces::json_register_text, json::specs::Print::escape_byte))]
 pub(crate) fn push_register(out: &mut Vec<u8>, register: Reg) -> Result<(), AllocError>
     ensures { OnOk result (out.new.items ≡ out.old.items ++ json_register_text register) }
 {

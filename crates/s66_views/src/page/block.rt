@@ -39,7 +39,7 @@ pub(crate) fn summary_of(
 }
 
 /// That a time is best, or what every order takes at least.
-#[tactic(auto, unfolding(crate::specs::Page::bound_text))]
+#[tactic(auto, unfolding(crate::specs::Page::page_bound_text))]
 fn push_bound(out: &mut Vec<u8>, time: u32, bound: u32) -> Result<(), AllocError>
     ensures { OnOk result (out.new.items ≡ out.old.items ++ page_bound_text time bound) }
 {
@@ -109,7 +109,7 @@ fn push_block_verdict(out: &mut Vec<u8>, summary: &Summary) -> Result<(), AllocE
 }
 
 /// The heading of a block.
-#[tactic(auto, unfolding(crate::specs::Page::block_head))]
+#[tactic(auto, unfolding(crate::specs::Page::page_block_head))]
 fn push_block_head(out: &mut Vec<u8>, entry: &[u8], summary: &Summary) -> Result<(), AllocError>
     ensures { OnOk result (out.new.items ≡ out.old.items ++ page_block_head entry.now summary.now) }
 {
@@ -135,7 +135,7 @@ fn push_best(
 }
 
 /// Lines below each other.
-#[tactic(auto, unfolding(crate::specs::Page::listing))]
+#[tactic(auto, unfolding(crate::specs::Page::page_listing))]
 fn push_listing(out: &mut Vec<u8>, text: &[u8]) -> Result<(), AllocError>
     ensures { OnOk result (out.new.items ≡ out.old.items ++ page_listing text.now) }
 {
@@ -190,7 +190,7 @@ fn push_index_link(out: &mut Vec<u8>, number: usize) -> Result<(), AllocError>
 }
 
 /// A number of a row.
-#[tactic(auto, unfolding(crate::specs::Page::cell))]
+#[tactic(auto, unfolding(crate::specs::Page::table_cell))]
 fn push_cell(out: &mut Vec<u8>, number: usize) -> Result<(), AllocError>
     ensures { OnOk result (out.new.items ≡ out.old.items ++ table_cell number) }
 {

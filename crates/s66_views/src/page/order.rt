@@ -108,7 +108,7 @@ fn push_why_below(out: &mut Vec<u8>, block: &Block, timed: &Timed) -> Result<(),
 /// instruction, and what `why` says.
 /// Coordinates are minor cycles of 100 ns. It takes time quadratic in the length of the order, which is at most `BLOCK_LIMIT`, and
 /// allocates nothing but room in `out`. `Err` is out of memory.
-#[tactic(auto, unfolding(crate::specs::Page::order_text))]
+#[tactic(auto, unfolding(crate::specs::Page::page_order_text))]
 pub(crate) fn push_order(
     out: &mut Vec<u8>,
     block: &Block,

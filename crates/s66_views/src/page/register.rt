@@ -31,7 +31,7 @@ fn push_register_bars(out: &mut Vec<u8>, reservations: &[Reservation]) -> Result
 }
 
 /// How the row of a register begins.
-#[tactic(auto, unfolding(crate::specs::Page::register_head))]
+#[tactic(auto, unfolding(crate::specs::Page::page_register_head))]
 fn push_register_head(out: &mut Vec<u8>, register: Reg) -> Result<(), AllocError>
     ensures { OnOk result (out.new.items ≡ out.old.items ++ page_register_head register) }
 {
@@ -41,7 +41,7 @@ fn push_register_head(out: &mut Vec<u8>, register: Reg) -> Result<(), AllocError
 }
 
 /// The row of a register.
-#[tactic(auto, unfolding(crate::specs::Page::register_row))]
+#[tactic(auto, unfolding(crate::specs::Page::page_register_row))]
 fn push_register_row(
     out: &mut Vec<u8>,
     register: Reg,

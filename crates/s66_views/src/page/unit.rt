@@ -92,7 +92,7 @@ fn push_unit_shares(out: &mut Vec<u8>, taken: usize, works: usize) -> Result<(),
 }
 
 /// How the row of a unit begins.
-#[tactic(auto, unfolding(crate::specs::Page::unit_head))]
+#[tactic(auto, unfolding(crate::specs::Page::page_unit_head))]
 fn push_unit_head(
     out: &mut Vec<u8>,
     name: &[u8],
@@ -107,7 +107,7 @@ fn push_unit_head(
 }
 
 /// The row of a unit.
-#[tactic(auto, unfolding(crate::specs::Page::unit_row))]
+#[tactic(auto, unfolding(crate::specs::Page::page_unit_row))]
 fn push_unit_row(
     out: &mut Vec<u8>,
     kind: Kind,
@@ -159,7 +159,7 @@ fn push_unit_rows(
 }
 
 /// The rows of the units of a kind.
-#[tactic(auto, unfolding(crate::specs::Page::kind_rows))]
+#[tactic(auto, unfolding(crate::specs::Page::page_kind_rows))]
 fn push_kind_rows(
     out: &mut Vec<u8>,
     total: u32,
