@@ -13,12 +13,17 @@ rights_of() {
     LC_ALL=C ls -dn -- "$1" | awk 'NR == 1 { print $1, $3, $4 }'
 }
 
+# Makes a new file beside a place. Its name is known before it is made: what ends the script removes it.
+make_beside() {
+    beside=$(mktemp -u -- "$1.XXXXXX" && echo .) && beside=${beside%??} && (set -C && : >"$beside") && return
+    beside=
+    return 1
+}
+
 # Puts the new text into the place of a file that still has the old one. It is written beside the file and then renamed, so that each
-# step leaves a file that is whole, with its rights and owner. A name may end in a newline. The name beside is known before a file is
-# made there, and only a new file is: what ends the script removes it.
+# step leaves a file that is whole, with its rights and owner. A name may end in a newline.
 replace() {
-    place=$(readlink -f -- "$1" && echo .) && place=${place%??} && [ -w "$place" ] &&
-        beside=$(mktemp -u -- "$place.XXXXXX" && echo .) && beside=${beside%??} && (set -C && : >"$beside") && cp -p -- "$place" "$beside" &&
+    place=$(readlink -f -- "$1" && echo .) && place=${place%??} && [ -w "$place" ] && make_beside "$place" && cp -p -- "$place" "$beside" &&
         [ "$(rights_of "$beside")" = "$(rights_of "$place")" ] && cat "$room/new" >"$beside" && cmp -s "$room/old" "$place" &&
         mv -f -- "$beside" "$place" && beside= && return
     rm -f -- "$beside"

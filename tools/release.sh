@@ -74,7 +74,9 @@ swap() {
 make_beside() {
     parent=$(dirname -- "$1")
     mkdir -p -- "$parent" && parent=$(cd -- "$parent" && pwd) && made=$(mktemp -u -- "$parent/$(basename -- "$1").XXXXXX") &&
-        mkdir -m 700 -- "$made"
+        mkdir -m 700 -- "$made" && return
+    made=
+    return 1
 }
 
 # Makes a release beside its place, checks it, and puts it there, in the place of nothing, an empty folder, or an earlier release.

@@ -1,7 +1,7 @@
 //! What standard error gets after a success: what the input lacks, how many lines `lint` lists, and how many blocks are only bounded.
 //! And the status by that.
 
-ghost use Rattle.std.specs.Prelude.{ℕ, List, [], ◌≡◌, ◌==◌, ◌<◌, ◌≤◌, ◌++◌, Some, true, false, if◌then◌else◌, codes, IfOk, length};
+ghost use Rattle.std.specs.Prelude.{ℕ, List, [], ◌∷◌, ◌≡◌, ◌==◌, ◌<◌, ◌≤◌, ◌++◌, Some, true, false, if◌then◌else◌, codes, IfOk, length};
 ghost use Rattle.s66_command.specs.{reads_cut, reads_of};
 ghost use Rattle.s66_command.specs.declared.command.Reads.TheVariants as reads;
 ghost use Rattle.s66_source.specs.{source_of};
