@@ -253,7 +253,9 @@ def hostile_decks():
     counts = itertools.count(1)
     sums = ["  CALLX " + ",".join(f"L+{next(counts)}" for _ in range(20)) for _ in range(MOST_LINES // 2)]
     yield "a name at 100 places, and 200,000 words from it", ["L  BX1 X2", " ZR X1,OUT"] * 100 + sums, 0, []
-    yield "sums of 90 terms", ["L SA1 " + "+".join(["L"] * 90)] * MOST_LINES, 0, []
+    terms = "+".join(["L"] * 90)
+    found = [f"LINE {n} PAST COLUMN 72 SA1 {terms}" for n in range(1, MOST_LINES + 1)]
+    yield "sums of 90 terms", [f"L SA1 {terms}"] * MOST_LINES, 8, found
     found = [f"LINE {n} BAD OPERAND MORE (CUT)" for n in range(2, MOST_LINES + 1)]
     yield "an instruction with 19,999 continuations", ["  BX1 X2"] + [",  MORE"] * (MOST_LINES - 1), 5, found
     half = MOST_LINES // 2
