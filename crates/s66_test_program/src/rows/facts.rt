@@ -172,6 +172,13 @@ pub(crate) const PROOF_ROWS: &[Row] = &[
         "S66 CERTIFICATE 5\nPROFILE 3 3 4 4 3 10 29 8 3 8 1 1 1 1 2 1 2\nBLOCK 7\nI LX5 B0,X6\nI SX3 B2+B0\nI FX7 X3+X1\nI SX3 X2+B3\nI LX5 B0,X3\nI SX0 B1+B2\nI SX2 B7+B3\nTIME 11\nBOUND 11\nORDER 2 1 3 4 5 6 7\nF 1 4\nF 2 1\nF 2 6\nB 3 1\nF 1 6\nF 3 6\nA 0 END 3 11 4 6 7\nQ\nF 6 5\nF 7 5\nF 3 6\nF 1 6\nA I1 I5 1 6 4 6 7\nE 2\nEND\n",
     ),
     (
+        "a supposition with no line that it can do without",
+        &["s66", "prove", "--workers", "1", "--deep", "--nodes", "32"],
+        "  SB4 B5+B3\n  FX1 X6+X7\n  SX6 B3+B2\n  IX6 X2+X6\n  BX0 X5*X2\n  LX2 B7,X4\n  SB1 B5+B3\n  SB2 B1+B2\n  SB4 B1+B5\n",
+        0,
+        "S66 CERTIFICATE 5\nPROFILE 3 3 4 4 3 10 29 8 3 8 1 1 1 1 2 1 2\nBLOCK 9\nI SB4 B5+B3\nI FX1 X6+X7\nI SX6 B3+B2\nI IX6 X2+X6\nI BX0 X5*X2\nI LX2 B7,X4\nI SB1 B5+B3\nI SB2 B1+B2\nI SB4 B1+B5\nTIME 12\nBOUND 12\nORDER 7 2 3 5 1 4 6 8 9\nF 1 6\nF 2 9\nF 7 6\nB 1 4\nF 7 1\nF 6 9\nF 8 9\nF 2 5\nF 2 7\nF 3 5\nF 3 7\nF 7 4\nA 0 END 1 13 1 3 7 8 9\nQ\nS 1 2 5 7\nP\nP\nP\nS 1 2 5\nE 3\nP\nP\nEND\n",
+    ),
+    (
         "prefixes with a pair in reverse",
         &["s66", "prove", "--workers", "1", "--deep", "--nodes", "3"],
         "  FX3 X2*X1\n  FX3 X3*X3\n  FX2 X3*X4\n  FX6 X1*X4\n",
