@@ -367,7 +367,7 @@ def definitions_of(specs, worked, needed, used):
     """A file of definitions: its subject, its paragraphs, and each definition; those without words at the end. Of a file that isn't to
     be believed, the definitions that are used."""
     yield f"\n#### `{specs.crate}/specs/{specs.name}.antt`\n"
-    for paragraph in (specs.subject(), *specs.paragraphs) if specs.is_believed() else ("Of this file alone what others here use.",):
+    for paragraph in (specs.subject(), *specs.paragraphs) if specs.is_believed() else ("Of this file only the definitions that others here use.",):
         yield f"\n{paragraph}\n"
     in_list, alone = False, []
     for item in specs.items if specs.is_believed() else used:
